@@ -1,0 +1,38 @@
+-- The bits of a number, and numbers made of bits. A pattern, a table, a set of entries is a number read by its bits. Assumes nothing.
+use mathlib.Core.Bool.{Bool, true, false, not}
+use mathlib.Core.List.{List, [], _∷_, map}
+use Prim.Native.Nat.{ℕ, _+_, _*_, _/_, _%_, _^_}
+use lib.Dec.{eqb}
+use lib.ListN.{getD}
+use Rattle.bits.specs.Range.{num, places}
+
+-- bit i of x
+unfoldable pub bit : ℕ → ℕ → Bool
+bit x i = eqb (x / 2 ^ i % 2) 1
+
+-- a where s holds, else b
+abbrev pub choose : Bool → Bool → Bool → Bool
+choose true a b = a
+choose false a b = b
+
+-- one of the two holds, and not both
+abbrev pub differs : Bool → Bool → Bool
+differs true b = not b
+differs false b = b
+
+-- the number whose bit i is the list's place i: the sum of place i times 2^i
+abbrev pub number : List Bool → ℕ
+number [] = 0
+number (b ∷ bs) = num b + 2 * number bs
+
+-- the table of n entries whose entry t is p t
+abbrev pub tableOf : ℕ → (ℕ → Bool) → ℕ
+tableOf n p = number (places n p)
+
+-- bit b of each word
+unfoldable pub column : List ℕ → ℕ → List Bool
+column ws b = map (λ w. bit w b) ws
+
+-- the entry that the first k words pick at bit b
+abbrev pub entryAt : ℕ → List ℕ → ℕ → ℕ
+entryAt k ws b = tableOf k (λ r. bit (getD ws r 0) b)

@@ -1,0 +1,23 @@
+-- The patterns of n inputs, which are the numbers below 2^n, cut into words of 64 places. Assumes nothing.
+use mathlib.Core.Path.{_≡_}
+use mathlib.Core.Bool.{cond}
+use mathlib.Core.Logic.{_⊎_}
+use Prim.Native.Nat.{ℕ, _+_, _-_, _*_, _/_, _%_, _^_, _≤_, _<_}
+use lib.Dec.{ltb}
+
+-- 2^n / 64 words, and at least one
+unfoldable pub wordCount : ℕ → ℕ
+wordCount n = cond (ltb n 6) 1 (2 ^ (n - 6))
+
+-- how many places of each word are patterns
+unfoldable pub placeCount : ℕ → ℕ
+placeCount n = cond (ltb n 6) (2 ^ n) 64
+
+-- W words of L places hold each pattern at its own place
+pub record Cut (n W L : ℕ) : Type 0 where
+  pub words : W ≤ 16
+  pub places : L ≤ 64
+  pub word : (x : ℕ) → x < 2 ^ n → x / 64 < W
+  pub place : (x : ℕ) → x < 2 ^ n → x % 64 < L
+  pub pattern : (w b : ℕ) → w < W → b < L → w * 64 + b < 2 ^ n
+  pub whole : ((W ≡ 1) × (L ≡ 2 ^ n)) ⊎ ((L ≡ 64) × (W * 64 ≡ 2 ^ n))

@@ -1,0 +1,197 @@
+// Words of bits: 64 patterns at once.
+ghost use mathlib.Core.Path.{_≡_};
+ghost use mathlib.Core.List.{[], _∷_};
+ghost use Prim.Native.Nat.{ℕ, _+_, _-_, _*_, _^_, _<_, _≤_};
+ghost use lib.ListN.{getD};
+ghost use lib.Dec.{ltb};
+ghost use mathlib.Core.Bool.{true, false, not, Bool·beq};
+ghost use Rattle.bits.specs.Cut.{Cut};
+ghost use Rattle.bits.specs.Range.{num, any, count};
+ghost use Rattle.bits.specs.Bit.{bit, choose, number, entryAt};
+
+// What a search finds.
+pub enum Found {
+    At(usize),
+    Nothing,
+}
+
+// Bit b of INPUT[i] is bit i of b.
+const INPUT: [u64; 6] = [
+    0xaaaa_aaaa_aaaa_aaaa,
+    0xcccc_cccc_cccc_cccc,
+    0xf0f0_f0f0_f0f0_f0f0,
+    0xff00_ff00_ff00_ff00,
+    0xffff_0000_ffff_0000,
+    0xffff_ffff_0000_0000,
+];
+
+// At each place: hi's bit where s has a 1, lo's where it has a 0.
+pub fn mux(s: u64, hi: u64, lo: u64) -> u64
+    ensures { λ r. ⌜ ((i : ℕ) → bit r i ≡ choose (bit s i) (bit hi i) (bit lo i)) ⌝ }
+{
+    lo ^ (s & (lo ^ hi))
+}
+
+// The lowest bit of t, 64 times.
+pub fn fill(t: u64) -> u64
+    ensures { λ r. ⌜ ((i : ℕ) → i < 64 → bit r i ≡ bit t 0) ⌝ }
+{
+    if t & 1 == 1 { 0xffff_ffff_ffff_ffff } else { 0 }
+}
+
+// The values of input i at the patterns 64 * w + b, for each b below 64.
+pub fn input_word(i: usize, w: u64) -> u64
+    requires { ⌜ i < 64 ⌝ }
+    ensures { λ r. ⌜ ((b : ℕ) → b < 64 → bit r b ≡ bit (w * 64 + b) i) ⌝ }
+{
+    if i < 6 { INPUT[i] } else { fill(w >> (i - 6)) }
+}
+
+pub fn lut1(t: u64, a: u64) -> u64
+    ensures { λ r. ⌜ ((i : ℕ) → i < 64 → bit r i ≡ bit t (number (bit a i ∷ []))) ⌝ }
+{
+    mux(a, fill(t >> 1), fill(t))
+}
+
+pub fn lut2(t: u64, a: u64, b: u64) -> u64
+    ensures { λ r. ⌜ ((i : ℕ) → i < 64 → bit r i ≡ bit t (number (bit a i ∷ bit b i ∷ []))) ⌝ }
+{
+    mux(b, lut1(t >> 2, a), lut1(t, a))
+}
+
+pub fn lut3(t: u64, a: u64, b: u64, c: u64) -> u64
+    ensures { λ r. ⌜ ((i : ℕ) → i < 64 → bit r i ≡ bit t (number (bit a i ∷ bit b i ∷ bit c i ∷ []))) ⌝ }
+{
+    mux(c, lut2(t >> 4, a, b), lut2(t, a, b))
+}
+
+pub fn lut4(t: u64, a: u64, b: u64, c: u64, d: u64) -> u64
+    ensures { λ r. ⌜ ((i : ℕ) → i < 64 → bit r i ≡ bit t (number (bit a i ∷ bit b i ∷ bit c i ∷ bit d i ∷ []))) ⌝ }
+{
+    mux(d, lut3(t >> 8, a, b, c), lut3(t, a, b, c))
+}
+
+// The same at any arity: the table's entry at the bits of the first k words.
+pub fn lut(k: usize, t: u64, ins: &[u64; 6]) -> u64
+    requires { ⌜ (1 ≤ k) × (k ≤ 4) ⌝ }
+    ensures { λ r. ⌜ ((b : ℕ) → b < 64 → bit r b ≡ bit t (entryAt k (now (ins .entry)) b)) ⌝ }
+{
+    if k == 1 {
+        return lut1(t, ins[0]);
+    }
+    if k == 2 {
+        return lut2(t, ins[0], ins[1]);
+    }
+    if k == 3 {
+        return lut3(t, ins[0], ins[1], ins[2]);
+    }
+    lut4(t, ins[0], ins[1], ins[2], ins[3])
+}
+
+// Bit i of a number.
+pub fn bit_of(x: u64, i: u64) -> bool
+    requires { ⌜ i < 64 ⌝ }
+    ensures { λ b. ⌜ b ≡ bit x i ⌝ }
+{
+    (x >> i) % 2 == 1
+}
+
+pub fn power(e: u64) -> u64
+    requires { ⌜ e < 64 ⌝ }
+    ensures { λ r. ⌜ r ≡ 2 ^ e ⌝ }
+{
+    1 << e
+}
+
+// One entry more of a table that has e of them.
+pub fn more(acc: u64, e: u64, b: bool) -> u64
+    requires { ⌜ (e < 64) × (acc < 2 ^ e) ⌝ }
+    ensures { λ r. ⌜ r ≡ num b * 2 ^ e + acc ⌝ }
+{
+    if b {
+        return power(e) + acc;
+    }
+    acc
+}
+
+// Whether a bit is set.
+pub fn some(x: u64) -> bool
+    ensures { λ r. ⌜ r ≡ any 64 (bit x) ⌝ }
+{
+    x != 0
+}
+
+// Each bit the other way round.
+pub fn invert(x: u64) -> u64
+    ensures { λ r. ⌜ ((i : ℕ) → i < 64 → bit r i ≡ not (bit x i)) ⌝ }
+{
+    !x
+}
+
+// How many bits are set.
+pub fn ones(x: u64) -> u32
+    ensures { λ r. ⌜ r ≡ count 64 (bit x) ⌝ }
+{
+    u64::count_ones(x)
+}
+
+// Where the lowest set bit stands, of a word that has one.
+pub fn first(x: u64) -> u32
+    requires { ⌜ (x ≡ 0 → ⊥) ⌝ }
+    ensures { λ r. ⌜ (r < 64) × (bit x r ≡ true) × ((i : ℕ) → i < r → bit x i ≡ false) ⌝ }
+{
+    u64::trailing_zeros(x)
+}
+
+// The first n bits set, and no other.
+pub fn mask(n: u32) -> u64
+    requires { ⌜ n ≤ 64 ⌝ }
+    ensures { λ r. ⌜ (r ≡ 2 ^ n - 1) × ((i : ℕ) → bit r i ≡ ltb i n) ⌝ }
+{
+    if n == 64 {
+        0xffff_ffff_ffff_ffff
+    } else {
+        (1 << n) - 1
+    }
+}
+
+pub struct Extent {
+    pub words: usize,
+    pub places: u32,
+}
+
+// How many words the patterns of n inputs take, and how many places of each.
+pub fn size(n: usize) -> Extent
+    requires { ⌜ n ≤ 10 ⌝ }
+    ensures { λ r. ⌜ Cut n (r .words) (r .places) ⌝ }
+{
+    if n < 6 {
+        Extent {
+            words: 1,
+            places: 1 << n,
+        }
+    } else {
+        Extent {
+            words: 1 << (n - 6),
+            places: 64,
+        }
+    }
+}
+
+// The entries below n that a table leaves out.
+pub fn rest(n: u32, x: u64) -> u64
+    requires { ⌜ (n ≤ 64) × (x < 2 ^ n) ⌝ }
+    ensures { λ r. ⌜ r ≡ 2 ^ n - 1 - x ⌝ }
+{
+    mask(n) - x
+}
+
+// The places where the bit of v is x.
+pub fn same(v: u64, x: bool) -> u64
+    ensures { λ r. ⌜ ((b : ℕ) → b < 64 → bit r b ≡ Bool·beq (bit v b) x) ⌝ }
+{
+    if x {
+        return v;
+    }
+    invert(v)
+}

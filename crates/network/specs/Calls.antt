@@ -1,0 +1,184 @@
+-- Every call of 01 but load, as a function from all that it is given to all that it leaves: the answer, the session, each word or
+-- byte of a lent buffer. Each call's tests stand in 01's order: 10 before all else, then 9, or 11, 12 and 13 or 14. Assumes nothing.
+use mathlib.Core.Bool.{Bool, not, cond, _&&_}
+use mathlib.Core.List.{List, [], _∷_, _++_}
+use Prim.Native.Nat.{ℕ, zero, suc, _+_, _-_, _^_}
+use lib.Dec.{ltb}
+use lib.ListN.{length, getD, set, drop, replicate}
+use Rattle.bits.specs.declared.Found.{Found}
+use Rattle.bits.specs.declared.Found.the-variants.{At, Nothing}
+use Rattle.bits.specs.Range.{places, upFrom, firstIn, smallest}
+use Rattle.bits.specs.Bit.{bit, differs}
+use Rattle.network.specs.declared.Session.{Session}
+use Rattle.network.specs.declared.Exchanged.{Exchanged}
+use Rattle.network.specs.declared.Tables.{Tables}
+use Rattle.network.specs.declared.TablesAnswer.{TablesAnswer}
+use Rattle.network.specs.declared.TablesAnswer.the-variants as tables
+use Rattle.network.specs.declared.WriteAnswer.{WriteAnswer}
+use Rattle.network.specs.declared.WriteAnswer.the-variants as write
+use Rattle.network.specs.declared.Counts.{Counts}
+use Rattle.network.specs.declared.Refusal.the-variants.{BufferTooShort, NotAGate, TableTooWide, ClosedEntry, Harm}
+use Rattle.network.specs.declared.Answer.{Answer}
+use Rattle.network.specs.declared.Answer.the-variants.{Done, Refused}
+use Rattle.network.specs.Net.{Net, isGate, gate, entries, patternOrder, Replacement, replaced}
+use Rattle.network.specs.DontCares.{sdc, cdc, odc, full, harms}
+use Rattle.network.specs.Compatible.{compatible, compatibleCount, closed}
+use Rattle.network.specs.Flat.{loadedNet, currentNet, wordsOf}
+use Rattle.network.specs.Tests.{refuseIf, orElse, first}
+use Rattle.network.specs.State.{stateTest}
+use Rattle.network.specs.Write.{bytesOf}
+
+-- ## The session user's refusals
+
+-- 11: no gate has that signal number
+unfoldable pub gateTest : Net → ℕ → Answer
+gateTest N s = refuseIf (not (isGate N s)) NotAGate
+
+abbrev pub fits : Net → Replacement → Bool
+fits N r = ltb (r .table) (2 ^ entries N (r .signal))
+
+-- 12: the table has a bit past 2^k
+unfoldable pub tableTest : Net → Replacement → Answer
+tableTest N r = refuseIf (not (fits N r)) TableTooWide
+
+-- the new table differs from the one of N at entry t
+unfoldable pub alters : Net → Replacement → ℕ → Bool
+alters N r t = differs (bit (gate N (r .signal) .table) t) (bit (r .table) t)
+
+abbrev pub entryFound : Found → Answer
+entryFound (At t) = Refused (ClosedEntry t)
+entryFound Nothing = Done
+
+-- 13: alters an entry that is shut, naming the smallest; N is the loaded network
+unfoldable pub closedTest : Net → (ℕ → Bool) → Replacement → Answer
+closedTest N shut r = entryFound (smallest (entries N (r .signal)) (λ t. shut t && alters N r t))
+
+abbrev pub outputFound : ℕ → Found → Answer
+outputFound x (At i) = Refused (Harm x i)
+outputFound x Nothing = Done
+
+-- 14: harm at the first of the patterns xs that has any, there at the lowest output
+abbrev pub harmIn : Net → Net → List ℕ → Answer
+harmIn L M [] = Done
+harmIn L M (x ∷ xs) = orElse (outputFound x (smallest (length (L .outputs)) (harms L M x))) (harmIn L M xs)
+
+unfoldable pub harmTest : Net → Net → Answer
+harmTest L M = harmIn L M (patternOrder L)
+
+-- ## Exchange: sets a gate's current table
+
+abbrev pub withCurrent : Session → List ℕ → Session
+withCurrent s ts = record {
+  n = s .n;
+  m = s .m;
+  p = s .p;
+  excluded = s .excluded;
+  arity = s .arity;
+  fanins = s .fanins;
+  loaded = s .loaded;
+  current = ts;
+  open_tables = s .open_tables;
+  outputs = s .outputs;
+}
+
+abbrev pub stored : Session → Replacement → Session
+stored s r = withCurrent s (set (s .current) (r .signal - s .n) (r .table))
+
+-- the tests of the user's numbers and table, where N is the loaded network and shut tells the closed entries of the gate that is named
+abbrev pub exchangeTests : Net → (ℕ → Bool) → Replacement → List Answer
+exchangeTests N shut r = gateTest N (r .signal) ∷ tableTest N r ∷ closedTest N shut r ∷ []
+
+-- the closed entries that the session holds
+abbrev pub heldClosed : Session → ℕ → ℕ → Bool
+heldClosed s g t = not (bit (getD (s .open_tables) (g - s .n) 0) t)
+
+unfoldable pub exchangeAnswer : Session → Replacement → Answer
+exchangeAnswer s r = first (stateTest s ∷ exchangeTests (loadedNet s) (heldClosed s (r .signal)) r)
+
+-- a refused exchange hands on the session that it got
+abbrev pub exchanged : Answer → Session → Replacement → Exchanged
+exchanged Done s r = record { answer = Done; session = stored s r }
+exchanged (Refused f) s r = record { answer = Refused f; session = s }
+
+unfoldable pub exchangeOf : Session → Replacement → Exchanged
+exchangeOf s r = exchanged (exchangeAnswer s r) s r
+
+-- ## Verdict: of the current network with one gate replaced, against the loaded outputs; it changes nothing
+
+unfoldable pub verdictOf : Session → Replacement → Answer
+verdictOf s r =
+    first (
+    stateTest s
+    ∷ gateTest (loadedNet s) (r .signal)
+    ∷ tableTest (loadedNet s) r
+    ∷ harmTest (loadedNet s) (replaced (currentNet s) (r ∷ []))
+    ∷ []
+    )
+
+-- ## Tables of a gate. The open table is the one that the session holds
+
+abbrev pub gateTables : Session → ℕ → Tables
+gateTables s g = record {
+  sdc = sdc (currentNet s) g;
+  cdc = cdc (currentNet s) g;
+  full = full (currentNet s) g;
+  open_table = getD (s .open_tables) (g - s .n) 0;
+}
+
+abbrev pub givenTables : Answer → Tables → TablesAnswer
+givenTables Done t = tables.Given t
+givenTables (Refused r) t = tables.Refused r
+
+unfoldable pub tablesOf : Session → ℕ → TablesAnswer
+tablesOf s g = givenTables (first (stateTest s ∷ gateTest (loadedNet s) g ∷ [])) (gateTables s g)
+
+-- ## Calls that fill a lent buffer
+
+-- what a call leaves: its answer, and every place of the buffer
+pub record Filled : Type 0 where
+  pub answer : Answer
+  pub buffer : List ℕ
+
+-- 9: shorter than the words or bytes needed
+abbrev pub roomTest : ℕ → List ℕ → Answer
+roomTest needed buffer = refuseIf (ltb (length buffer) needed) BufferTooShort
+
+-- the new words or bytes from the start, the rest stays
+abbrev pub overwritten : List ℕ → List ℕ → List ℕ
+overwritten new buffer = new ++ drop (length new) buffer
+
+abbrev pub filled : Answer → List ℕ → List ℕ → Filled
+filled Done new buffer = record { answer = Done; buffer = overwritten new buffer }
+filled (Refused r) new buffer = record { answer = Refused r; buffer = buffer }
+
+-- ODC first, then H, gate after gate; the first g gates
+abbrev pub setWords : Session → ℕ → List ℕ
+setWords s zero = []
+setWords s (suc g) = setWords s g ++ (wordsOf (s .n) (odc (currentNet s) (s .n + g)) ++ wordsOf (s .n) (compatible (loadedNet s) (s .n + g)))
+
+-- pattern sets: the ODC and H of all gates, into words of 64 patterns
+unfoldable pub patternSetsOf : Session → List ℕ → Filled
+patternSetsOf s buffer =
+    let words = setWords s (s .m) in
+    filled (first (stateTest s ∷ roomTest (length words) buffer ∷ [])) words buffer
+
+-- write: the file's bytes
+unfoldable pub writeOf : Session → List ℕ → Filled
+writeOf s buffer = filled (first (stateTest s ∷ roomTest (length (bytesOf s)) buffer ∷ [])) (bytesOf s) buffer
+
+-- with the length
+abbrev pub writeAnswer : Answer → ℕ → WriteAnswer
+writeAnswer Done n = write.Written n
+writeAnswer (Refused r) n = write.Refused r
+
+-- ## The number of patterns in H of each gate
+
+abbrev pub countsFor : Answer → Session → Counts
+countsFor Done s = record {
+  answer = Done;
+  counts = places 40 (λ g. cond (ltb g (s .m)) (compatibleCount (loadedNet s) (s .n + g)) 0);
+}
+countsFor (Refused r) s = record { answer = Refused r; counts = replicate 40 0 }
+
+unfoldable pub countsOf : Session → Counts
+countsOf s = countsFor (stateTest s) s

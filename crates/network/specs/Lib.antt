@@ -1,0 +1,12 @@
+pub mod Net
+pub mod DontCares
+pub mod Compatible
+pub mod Flat
+pub mod Valid
+pub mod Refusals
+pub mod Tests
+pub mod State
+pub mod Load
+pub mod Write
+pub mod Calls
+pub mod Sessions

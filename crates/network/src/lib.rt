@@ -1,0 +1,83 @@
+ghost use mathlib.Core.Path.{_≡_};
+
+// A session: the loaded and the current network in flat arrays, and the open tables that the load gave.
+// Gate g has its fan-ins at places 6 * g and on; a table has entry t at bit t.
+// A one in the excluded set means that the pattern never comes.
+pub struct Session {
+    pub n: u8,
+    pub m: u8,
+    pub p: u8,
+    pub excluded: [u64; 16],
+    pub arity: [u8; 40],
+    pub fanins: [u8; 240],
+    pub loaded: [u64; 40],
+    pub current: [u64; 40],
+    pub open_tables: [u64; 40],
+    pub outputs: [u8; 8],
+}
+
+// Why a call is refused, in the order of the numbers 1 to 14.
+pub enum Refusal {
+    Truncated,
+    UnexpectedMark,
+    OutOfBounds,
+    FaninNotEarlier,
+    FaninRepeated,
+    BitPastEnd,
+    NotASignal,
+    TrailingBytes,
+    BufferTooShort,
+    InvalidState,
+    NotAGate,
+    TableTooWide,
+    ClosedEntry(usize),
+    Harm { pattern: usize, output: usize },
+}
+
+pub enum Answer {
+    Done,
+    Refused(Refusal),
+}
+
+// A load: where it is refused, the session is all zeros.
+pub struct Loaded {
+    pub answer: Answer,
+    pub session: Session,
+}
+
+// An exchange: where it is refused, the session is the one that was given.
+pub struct Exchanged {
+    pub answer: Answer,
+    pub session: Session,
+}
+
+// The tables of one gate.
+pub struct Tables {
+    pub sdc: u64,
+    pub cdc: u64,
+    pub full: u64,
+    pub open_table: u64,
+}
+
+pub enum TablesAnswer {
+    Given(Tables),
+    Refused(Refusal),
+}
+
+pub enum WriteAnswer {
+    Written(usize),
+    Refused(Refusal),
+}
+
+// The number of patterns in the compatible set of each gate, 0 past the last gate and in a refusal.
+pub struct Counts {
+    pub answer: Answer,
+    pub counts: [u64; 40],
+}
+
+// A number of a byte array as a place.
+pub fn place(x: u8) -> usize
+    ensures { λ r. ⌜ r ≡ x ⌝ }
+{
+    x as usize
+}
