@@ -1,2 +1,13 @@
 pub mod Laws
 pub mod Fresh
+pub mod Valid
+pub mod Earlier
+pub mod TestLaws
+pub mod Cases
+pub mod Harm
+pub mod Lone
+pub mod Slots
+pub mod Reached
+pub mod Safe
+pub mod Exchanges
+pub mod Demand3

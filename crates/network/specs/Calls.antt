@@ -57,10 +57,14 @@ abbrev pub outputFound : ℕ → Found → Answer
 outputFound x (At i) = Refused (Harm x i)
 outputFound x Nothing = Done
 
+-- the first of the patterns xs at which some output i below p has h x i, and there the lowest such output
+abbrev pub firstHarm : (ℕ → ℕ → Bool) → ℕ → List ℕ → Answer
+firstHarm h p [] = Done
+firstHarm h p (x ∷ xs) = orElse (outputFound x (smallest p (h x))) (firstHarm h p xs)
+
 -- 14: harm at the first of the patterns xs that has any, there at the lowest output
 abbrev pub harmIn : Net → Net → List ℕ → Answer
-harmIn L M [] = Done
-harmIn L M (x ∷ xs) = orElse (outputFound x (smallest (length (L .outputs)) (harms L M x))) (harmIn L M xs)
+harmIn L M xs = firstHarm (harms L M) (length (L .outputs)) xs
 
 unfoldable pub harmTest : Net → Net → Answer
 harmTest L M = harmIn L M (patternOrder L)

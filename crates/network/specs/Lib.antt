@@ -10,3 +10,4 @@ pub mod Load
 pub mod Write
 pub mod Calls
 pub mod Sessions
+pub mod Cases

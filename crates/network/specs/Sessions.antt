@@ -13,7 +13,7 @@ use Rattle.network.specs.declared.Refusal.the-variants.{NotAGate, TableT
 use Rattle.network.specs.declared.Answer.{Answer}
 use Rattle.network.specs.declared.Answer.the-variants.{Done, Refused}
 use Rattle.network.specs.Net.{Net, isGate, gate, entries, patterns, excludedFor, output, Replacement}
-use Rattle.network.specs.DontCares.{full}
+use Rattle.network.specs.DontCares.{full, harms}
 use Rattle.network.specs.Compatible.{closed}
 use Rattle.network.specs.Flat.{loadedNet, currentNet}
 use Rattle.network.specs.Tests.{first}
@@ -92,6 +92,20 @@ pub record Demand3 (s : Session) (rs : List Replacement) : Type 0 where
 -- of every list of bytes that loads
 abbrev pub Demand3Of : Type 0
 Demand3Of = (bytes : List ℕ) (s : Session) (rs : List Replacement) → loadOf bytes ≡ loadDone s → Demand3 s rs
+
+-- ## Harm: what a verdict finds of the network M against the loaded one, L
+
+-- no pattern below n harms an output
+abbrev pub NoHarm : Net → Net → ℕ → Type 0
+NoHarm L M n = (x i : ℕ) → x < n → i < length (L .outputs) → harms L M x i ≡ false
+
+-- the smallest pattern that harms an output and, there, the lowest output
+pub record FirstHarm (L M : Net) (x i : ℕ) : Type 0 where
+  pub pattern : x < patterns L
+  pub output : i < length (L .outputs)
+  pub harm : harms L M x i ≡ true
+  pub before : NoHarm L M x
+  pub lower : (j : ℕ) → j < i → harms L M x j ≡ false
 
 -- ## Rule 4's second sentence, in every session that a load and exchanges give: a replacement at a gate, with a table that fits,
 -- is harmless exactly when it alters only entries of the full table

@@ -1,0 +1,243 @@
+-- Cases of the definitions, each computed and held against what is stated: 01's (m) cases, document 004's examples, damaged files.
+-- A case is a pair: what the definitions give, and what the document says. Assumes nothing.
+use mathlib.Core.Bool.{Bool}
+use mathlib.Core.List.{List, [], _∷_, _++_}
+use Prim.Native.Nat.{ℕ}
+use lib.ListN.{take, drop, set, replicate}
+use lib.Seq.{sets}
+use Rattle.bits.specs.Bit.{tableOf}
+use Rattle.network.specs.declared.Session.{Session}
+use Rattle.network.specs.Net.{Gate, Net, gate, patterns, Replacement, replaced}
+use Rattle.network.specs.DontCares.{sdc, cdc, odc, full}
+use Rattle.network.specs.Compatible.{freeFanins, compatible, compatibleCount, openTable}
+use Rattle.network.specs.Refusals.{said}
+use Rattle.network.specs.Load.{loadOf}
+use Rattle.network.specs.Write.{bytesOf}
+use Rattle.network.specs.Calls.{exchangeOf, verdictOf, harmTest}
+use Rattle.network.specs.Sessions.{after}
+
+-- ## Networks
+
+abbrev pub g : List ℕ → ℕ → Gate
+g fs t = record { fanins = fs; table = t }
+
+-- n inputs, one word of excluded patterns, the gates, the outputs
+abbrev pub net : ℕ → ℕ → List Gate → List ℕ → Net
+net n ex gs outs = record { inputs = n; excluded = ex ∷ []; gates = gs; outputs = outs }
+
+-- 01's twin network
+abbrev pub twin : Net
+twin = net 1 0 (g (0 ∷ []) 0x2 ∷ g (0 ∷ []) 0x2 ∷ g (1 ∷ 2 ∷ []) 0xE ∷ []) (3 ∷ [])
+
+-- 01's case of rule 6: y2·(y1 + y3) over three copied inputs
+abbrev pub freeing : Net
+freeing = net 3 0 (g (0 ∷ []) 0x2 ∷ g (1 ∷ []) 0x2 ∷ g (2 ∷ []) 0x2 ∷ g (3 ∷ 4 ∷ 5 ∷ []) 0xC8 ∷ []) (6 ∷ [])
+
+-- X = ab, f = Xb + bY + XY over (X, b, Y), Y an input
+abbrev pub tourFirst : Net
+tourFirst = net 4 0 (g (0 ∷ 1 ∷ []) 0x8 ∷ g (4 ∷ 1 ∷ 2 ∷ []) 0xE8 ∷ []) (5 ∷ [])
+
+-- X = ab, Y = b + c, f = Xb + bY + XY over (X, b, Y)
+abbrev pub tourSecond : Net
+tourSecond = net 3 0 (g (0 ∷ 1 ∷ []) 0x8 ∷ g (1 ∷ 2 ∷ []) 0xE ∷ g (3 ∷ 1 ∷ 4 ∷ []) 0xE8 ∷ []) (5 ∷ [])
+
+-- document 004's tour: the same, and Z = f·X·d
+abbrev pub tour : Net
+tour = net 4 0 (g (0 ∷ 1 ∷ []) 0x8 ∷ g (1 ∷ 2 ∷ []) 0xE ∷ g (4 ∷ 1 ∷ 5 ∷ []) 0xE8 ∷ g (6 ∷ 4 ∷ 3 ∷ []) 0x80 ∷ []) (7 ∷ [])
+
+-- X = ab + c
+abbrev pub sumOfProducts : Net
+sumOfProducts = net 3 0 (g (0 ∷ 1 ∷ 2 ∷ []) 0xF8 ∷ []) (3 ∷ [])
+
+-- f over (a, X, Y), X = a + b, Y = ab
+abbrev pub controlThree : Net
+controlThree = net 2 0 (g (0 ∷ 1 ∷ []) 0xE ∷ g (0 ∷ 1 ∷ []) 0x8 ∷ g (0 ∷ 2 ∷ 3 ∷ []) 0x96 ∷ []) (4 ∷ [])
+
+-- f over (a, c, X, Y), E = bc
+abbrev pub controlFour : Net
+controlFour = net 3 0xC0 (g (0 ∷ 1 ∷ []) 0xE ∷ g (0 ∷ 1 ∷ []) 0x8 ∷ g (0 ∷ 2 ∷ 3 ∷ 4 ∷ []) 0x6996 ∷ []) (5 ∷ [])
+
+-- F = a xor b feeds a gate over (a, b, F, c): its ODC is ab + a'bc
+abbrev pub observe : Net
+observe = net 3 0 (g (0 ∷ 1 ∷ []) 0x6 ∷ g (0 ∷ 1 ∷ 3 ∷ 2 ∷ []) 0xB8F8 ∷ []) (4 ∷ [])
+
+-- BCD segment a, the patterns 10 to 15 excluded
+abbrev pub segment : Net
+segment = net 4 0xFC00 (g (0 ∷ 1 ∷ 2 ∷ 3 ∷ []) 0x3ED ∷ []) (4 ∷ [])
+
+-- ## Files and sessions
+
+abbrev pub twinBytes : List ℕ
+twinBytes =
+    0x4E ∷ 0x49 ∷ 0x01 ∷ 0x03 ∷ 0x01
+    ∷ 0x4E ∷ 0x47 ∷ 0x01 ∷ 0x00 ∷ 0x02 ∷ 0x00
+    ∷ 0x4E ∷ 0x47 ∷ 0x01 ∷ 0x00 ∷ 0x02 ∷ 0x00
+    ∷ 0x4E ∷ 0x47 ∷ 0x02 ∷ 0x01 ∷ 0x02 ∷ 0x0E ∷ 0x00
+    ∷ 0x4E ∷ 0x4F ∷ 0x03 ∷ []
+
+-- the session with these counts, excluded word, arities, fan-ins, tables, open tables and outputs
+abbrev pub held : ℕ → ℕ → ℕ → ℕ → List ℕ → List ℕ → List ℕ → List ℕ → List ℕ → Session
+held n m p ex ks fs ts os outs = record {
+  n = n;
+  m = m;
+  p = p;
+  excluded = set (replicate 16 0) 0 ex;
+  arity = sets (replicate 40 0) 0 ks;
+  fanins = sets (replicate 240 0) 0 fs;
+  loaded = sets (replicate 40 0) 0 ts;
+  current = sets (replicate 40 0) 0 ts;
+  open_tables = sets (replicate 40 0) 0 os;
+  outputs = sets (replicate 8 0) 0 outs;
+}
+
+abbrev pub twinSession : Session
+twinSession = held 1 3 1 0 (1 ∷ 1 ∷ 2 ∷ []) (replicate 12 0 ++ 1 ∷ 2 ∷ []) (0x2 ∷ 0x2 ∷ 0xE ∷ []) (0x2 ∷ 0x0 ∷ 0x2 ∷ []) (3 ∷ [])
+
+-- gate 1 is 0 whatever the input, gate 2 its inverse and the output; pattern 0 is excluded
+abbrev pub chainBytes : List ℕ
+chainBytes =
+    0x4E ∷ 0x49 ∷ 0x01 ∷ 0x02 ∷ 0x01
+    ∷ 0x4E ∷ 0x58 ∷ 0x01
+    ∷ 0x4E ∷ 0x47 ∷ 0x01 ∷ 0x00 ∷ 0x00 ∷ 0x00
+    ∷ 0x4E ∷ 0x47 ∷ 0x01 ∷ 0x01 ∷ 0x01 ∷ 0x00
+    ∷ 0x4E ∷ 0x4F ∷ 0x02 ∷ []
+
+abbrev pub chainSession : Session
+chainSession = held 1 2 1 1 (1 ∷ 1 ∷ []) (replicate 6 0 ++ 1 ∷ []) (0x0 ∷ 0x1 ∷ []) (0x1 ∷ 0x2 ∷ []) (2 ∷ [])
+
+-- ## Words for the cases
+
+-- all numbers of a session, one after the other
+abbrev pub numbers : Session → List ℕ
+numbers s = s .n ∷ s .m ∷ s .p ∷ s .excluded ++ s .arity ++ s .fanins ++ s .loaded ++ s .current ++ s .open_tables ++ s .outputs
+
+abbrev pub to : ℕ → ℕ → Replacement
+to s t = record { signal = s; table = t }
+
+-- a set of patterns as a number
+abbrev pub setOf : Net → (ℕ → Bool) → ℕ
+setOf N p = tableOf (patterns N) p
+
+-- an exchange and a verdict after some exchanges, and a lone verdict on a loaded network, in 01's numbers
+abbrev pub exchangeSaid : Session → List Replacement → Replacement → List ℕ
+exchangeSaid s rs r = said (exchangeOf (after s rs) r .answer)
+
+abbrev pub verdictSaid : Session → List Replacement → Replacement → List ℕ
+verdictSaid s rs r = said (verdictOf (after s rs) r)
+
+abbrev pub loneSaid : Net → Replacement → List ℕ
+loneSaid N r = said (harmTest N (replaced N (r ∷ [])))
+
+-- ## 01, 'The twin network': the cases marked (m)
+
+abbrev pub marked : List (List ℕ × List ℕ)
+marked =
+    -- the twin network's bytes, loaded and written
+    (said (loadOf twinBytes .answer) ++ numbers (loadOf twinBytes .session), numbers twinSession)
+    ∷ (bytesOf twinSession, twinBytes)
+    -- ODC of gates 1 and 2 is {1}; of gate 3 empty
+    ∷ (setOf twin (odc twin 1) ∷ setOf twin (odc twin 2) ∷ setOf twin (odc twin 3) ∷ [], 0b10 ∷ 0b10 ∷ 0 ∷ [])
+    -- H of gate 1 is {1}; of gates 2 and 3 empty
+    ∷ (setOf twin (compatible twin 1) ∷ setOf twin (compatible twin 2) ∷ setOf twin (compatible twin 3) ∷ [], 0b10 ∷ 0 ∷ 0 ∷ [])
+    ∷ (compatibleCount twin 1 ∷ compatibleCount twin 2 ∷ compatibleCount twin 3 ∷ [], 1 ∷ 0 ∷ 0 ∷ [])
+    -- SDC of gate 1 is 06, of gate 3 1E
+    ∷ (sdc twin 1 ∷ sdc twin 3 ∷ [], 0x06 ∷ 0x1E ∷ [])
+    -- the three tables of gate 3: cdc, full, open
+    ∷ (cdc twin 3 ∷ full twin 3 ∷ openTable twin 3 ∷ [], 0x6 ∷ 0x6 ∷ 0x2 ∷ [])
+    -- exchange gate 1 to 0: accepted; gate 2 to 0: 13, entry 1
+    ∷ (exchangeSaid twinSession [] (to 1 0), [])
+    ∷ (take 3 (after twinSession (to 1 0 ∷ []) .current), 0x0 ∷ 0x2 ∷ 0xE ∷ [])
+    ∷ (exchangeSaid twinSession [] (to 2 0), 13 ∷ 1 ∷ [])
+    -- verdict, gate 2 to 0: harmless after load, 14 with pattern 1, output 0, once gate 1 is 0
+    ∷ (verdictSaid twinSession [] (to 2 0), [])
+    ∷ (verdictSaid twinSession (to 1 0 ∷ []) (to 2 0), 14 ∷ 1 ∷ 0 ∷ [])
+    -- gate 3 to C: accepted, before or after gate 1
+    ∷ (exchangeSaid twinSession [] (to 3 0xC), [])
+    ∷ (exchangeSaid twinSession (to 1 0 ∷ []) (to 3 0xC), [])
+    -- rule 6 frees y1 and y3 of y2·(y1 + y3) at 000
+    ∷ (freeFanins (gate freeing 6) 0 ∷ [], 0b101 ∷ [])
+    -- document 004's tour: CDC of f 2E, full table 7F
+    ∷ (cdc tour 6 ∷ full tour 6 ∷ [], 0x2E ∷ 0x7F ∷ [])
+    ∷ []
+
+-- ## Document 004's examples, and what 01's rules give for them
+
+-- SDC, CDC, full and open table, ODC and H of the gate s
+abbrev pub ofGate : Net → ℕ → List ℕ
+ofGate N s = sdc N s ∷ cdc N s ∷ full N s ∷ openTable N s ∷ setOf N (odc N s) ∷ setOf N (compatible N s) ∷ []
+
+abbrev pub worked : List (List ℕ × List ℕ)
+worked =
+    (ofGate twin 1, 0x6 ∷ 0x0 ∷ 0x2 ∷ 0x2 ∷ 0x2 ∷ 0x2 ∷ [])
+    ∷ (ofGate twin 2, 0x6 ∷ 0x0 ∷ 0x2 ∷ 0x0 ∷ 0x2 ∷ 0x0 ∷ [])
+    ∷ (ofGate twin 3, 0x1E ∷ 0x6 ∷ 0x6 ∷ 0x2 ∷ 0x0 ∷ 0x0 ∷ [])
+    ∷ (ofGate freeing 3, 0x6 ∷ 0x0 ∷ 0x0 ∷ 0x0 ∷ 0xF3 ∷ 0xF3 ∷ [])
+    ∷ (ofGate freeing 4, 0x6 ∷ 0x0 ∷ 0x0 ∷ 0x0 ∷ 0x5 ∷ 0x4 ∷ [])
+    ∷ (ofGate freeing 5, 0x6 ∷ 0x0 ∷ 0x0 ∷ 0x0 ∷ 0xBB ∷ 0x3B ∷ [])
+    ∷ (ofGate freeing 6, 0x37C8 ∷ 0x0 ∷ 0x0 ∷ 0x0 ∷ 0x0 ∷ 0x0 ∷ [])
+    ∷ (ofGate tourFirst 4, 0x78 ∷ 0x0 ∷ 0x0 ∷ 0x0 ∷ 0xC3C3 ∷ 0xC3C3 ∷ [])
+    ∷ (ofGate tourFirst 5, 0x17E8 ∷ 0x22 ∷ 0x22 ∷ 0x20 ∷ 0x0 ∷ 0x0 ∷ [])
+    ∷ (ofGate tourSecond 3, 0x78 ∷ 0x0 ∷ 0xC ∷ 0xC ∷ 0xCF ∷ 0xCF ∷ [])
+    ∷ (ofGate tourSecond 4, 0x1E ∷ 0x0 ∷ 0x5 ∷ 0x4 ∷ 0xBB ∷ 0x30 ∷ [])
+    ∷ (ofGate tourSecond 5, 0x17E8 ∷ 0x2E ∷ 0x2E ∷ 0x2C ∷ 0x0 ∷ 0x0 ∷ [])
+    ∷ (ofGate tour 4, 0x78 ∷ 0x0 ∷ 0x0 ∷ 0x0 ∷ 0x3FF ∷ 0xFF ∷ [])
+    ∷ (ofGate tour 5, 0x1E ∷ 0x0 ∷ 0xF ∷ 0x5 ∷ 0xFFFF ∷ 0x77FF ∷ [])
+    ∷ (ofGate tour 6, 0x17E8 ∷ 0x2E ∷ 0x7F ∷ 0x7F ∷ 0x77FF ∷ 0x77FF ∷ [])
+    ∷ (ofGate tour 7, 0x7F80 ∷ 0x44 ∷ 0x44 ∷ 0x40 ∷ 0x0 ∷ 0x0 ∷ [])
+    ∷ (ofGate sumOfProducts 3, 0x7F8 ∷ 0x0 ∷ 0x0 ∷ 0x0 ∷ 0x0 ∷ 0x0 ∷ [])
+    ∷ (ofGate controlThree 2, 0x1E ∷ 0x0 ∷ 0x0 ∷ 0x0 ∷ 0x0 ∷ 0x0 ∷ [])
+    ∷ (ofGate controlThree 3, 0x78 ∷ 0x0 ∷ 0x0 ∷ 0x0 ∷ 0x0 ∷ 0x0 ∷ [])
+    ∷ (ofGate controlThree 4, 0x6996 ∷ 0x72 ∷ 0x72 ∷ 0x72 ∷ 0x0 ∷ 0x0 ∷ [])
+    ∷ (ofGate controlFour 3, 0x1E ∷ 0x0 ∷ 0x0 ∷ 0x0 ∷ 0x0 ∷ 0xC0 ∷ [])
+    ∷ (ofGate controlFour 4, 0x78 ∷ 0x0 ∷ 0x0 ∷ 0x0 ∷ 0x0 ∷ 0xC0 ∷ [])
+    ∷ (ofGate controlFour 5, 0x96696996 ∷ 0x5F0A ∷ 0xDF4A ∷ 0xDF4A ∷ 0x0 ∷ 0xC0 ∷ [])
+    ∷ (ofGate observe 3, 0x96 ∷ 0x0 ∷ 0x8 ∷ 0x8 ∷ 0xC8 ∷ 0xC8 ∷ [])
+    ∷ (ofGate observe 4, 0x4707B8F8 ∷ 0x9696 ∷ 0x9696 ∷ 0x1216 ∷ 0x0 ∷ 0x0 ∷ [])
+    ∷ (ofGate segment 4, 0xFC1203ED ∷ 0x0 ∷ 0xFC00 ∷ 0xFC00 ∷ 0x0 ∷ 0xFC00 ∷ [])
+    -- f may become b, or 1 once Z uses it, and not 0; X may not become a + b
+    ∷ (loneSaid tourSecond (to 5 0xCC), [])
+    ∷ (loneSaid tour (to 6 0xFF), [])
+    ∷ (loneSaid tour (to 6 0x00), 14 ∷ 11 ∷ 0 ∷ [])
+    ∷ (loneSaid tour (to 4 0xE), 14 ∷ 10 ∷ 0 ∷ [])
+    ∷ []
+
+-- ## Refusals
+
+abbrev pub refused : List (List ℕ × List ℕ)
+refused =
+    -- 11, 12, and 10 for the session of a refused load
+    (exchangeSaid twinSession [] (to 0 0) ++ exchangeSaid twinSession [] (to 4 0) ++ exchangeSaid twinSession [] (to 1 4) ++ verdictSaid twinSession [] (to 3 16), 11 ∷ 11 ∷ 12 ∷ 12 ∷ [])
+    ∷ (exchangeSaid (loadOf [] .session) [] (to 0 0), 10 ∷ [])
+    -- the compatible sets stay those of the loaded network: gate 1 to 2 alters a closed entry, also after an exchange at gate 2
+    ∷ (numbers (loadOf chainBytes .session), numbers chainSession)
+    ∷ (exchangeSaid chainSession [] (to 1 2), 13 ∷ 1 ∷ [])
+    ∷ (exchangeSaid chainSession (to 2 3 ∷ []) (to 1 2), 13 ∷ 1 ∷ [])
+    ∷ []
+
+abbrev pub but : ℕ → ℕ → List ℕ
+but i x = set twinBytes i x
+
+-- damaged files, with 01's number
+abbrev pub damaged : List (List ℕ × List ℕ)
+damaged =
+    ([], 1 ∷ [])
+    ∷ (take 1 twinBytes, 1 ∷ [])
+    ∷ (take 26 twinBytes, 1 ∷ [])
+    ∷ (twinBytes ++ 0 ∷ [], 8 ∷ [])
+    ∷ (but 1 0x47, 2 ∷ [])
+    ∷ (but 2 0, 3 ∷ [])
+    ∷ (but 2 11, 3 ∷ [])
+    ∷ (but 3 41, 3 ∷ [])
+    ∷ (but 4 9, 3 ∷ [])
+    ∷ (but 7 5, 3 ∷ [])
+    ∷ (but 8 1, 4 ∷ [])
+    ∷ (but 21 1, 5 ∷ [])
+    ∷ (but 9 4, 6 ∷ [])
+    ∷ (but 26 4, 7 ∷ [])
+    ∷ (but 24 0, 2 ∷ [])
+    -- k is tested before the rest of the length
+    ∷ (0x4E ∷ 0x49 ∷ 1 ∷ 1 ∷ 1 ∷ 0x4E ∷ 0x47 ∷ 5 ∷ [], 3 ∷ [])
+    -- a bit past 2^n in the excluded set, and none
+    ∷ (take 5 twinBytes ++ 0x4E ∷ 0x58 ∷ 4 ∷ drop 5 twinBytes, 6 ∷ [])
+    ∷ (take 5 twinBytes ++ 0x4E ∷ 0x58 ∷ 3 ∷ drop 5 twinBytes, [])
+    ∷ []
