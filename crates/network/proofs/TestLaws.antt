@@ -33,10 +33,6 @@ passed false r h = refl
 pub kept : (b : Bool) (r : Refusal) → refuseIf (not b) r ≡ Done → b ≡ true
 kept b r h = not-false b (passed (not b) r h)
 
-pub by-answer : {P : Type 0} (a : Answer) → (a ≡ Done → P) → ((r : Refusal) → a ≡ Refused r → P) → P
-by-answer Done f g = f refl
-by-answer (Refused r) f g = g r refl
-
 -- ## A list of tests
 
 both : (a b : Answer) → orElse a b ≡ Done → (a ≡ Done) × (b ≡ Done)

@@ -1,9 +1,12 @@
 // The tests behind refusals 3 to 7, and behind refusal 10: whether a session is one that can be worked with.
 ghost use mathlib.Core.Path.{_≡_};
-ghost use Prim.Native.Nat.{_+_, _-_, _*_, _^_, _<_, _≤_};
+ghost use mathlib.Core.List.{[], _∷_, map};
+ghost use Prim.Native.Nat.{_-_, _*_, _^_, _<_, _≤_};
 ghost use lib.ListN.{length, getD};
-ghost use Rattle.network.specs.Tests.{countTest, faninTest, faninsTest, widthTest, excludedTest, outputTest};
+ghost use Rattle.bits.specs.Range.{places, upFrom};
+ghost use Rattle.network.specs.Tests.{first, countTest, faninTest, faninsTest, widthTest, excludedTest, outputTest};
 ghost use Rattle.network.specs.Tests as tests;
+ghost use Rattle.network.specs.State.{gateFault, stateFault, stateTest};
 use network::Answer;
 use network::Refusal;
 use network::Session;
@@ -19,6 +22,21 @@ pub fn count_test(most: u8, x: u8) -> Answer
         return Answer::Refused(Refusal::OutOfBounds);
     }
     Answer::Done
+}
+
+// 3, of the three counts in turn.
+pub fn counts_test(n: u8, m: u8, p: u8) -> Answer
+    ensures { λ r. ⌜ r ≡ first (countTest 10 n ∷ countTest 40 m ∷ countTest 8 p ∷ []) ⌝ }
+{
+    let a = count_test(10, n);
+    if let Answer::Refused(_) = a {
+        return a;
+    }
+    let b = count_test(40, m);
+    if let Answer::Refused(_) = b {
+        return b;
+    }
+    count_test(8, p)
 }
 
 // Whether x is one of the bytes.
@@ -123,4 +141,97 @@ pub fn output_test(signals: u8, x: u8) -> Answer
         return Answer::Done;
     }
     Answer::Refused(Refusal::NotASignal)
+}
+
+// 7, of the first p outputs in turn.
+fn outputs_test(p: u8, signals: u8, outputs: [u8; 8]) -> Answer
+    requires { ⌜ p ≤ 8 ⌝ }
+    ensures { λ r. ⌜ r ≡ first (map (λ i. outputTest signals (getD outputs i 0)) (upFrom 0 p)) ⌝ }
+{
+    let mut i: u8 = 0;
+    while i < p {
+        let a = output_test(signals, outputs[i as usize]);
+        if let Answer::Refused(_) = a {
+            return a;
+        }
+        i += 1;
+    }
+    Answer::Done
+}
+
+// 3 to 6, of a gate whose k fan-ins open fs.
+fn gate_test(limit: u8, k: u8, fs: &[u8], loaded: u64, current: u64) -> Answer
+    requires { ⌜ 4 ≤ length (now fs) ⌝ }
+    ensures { λ r. ⌜ r ≡ first (countTest 4 k ∷ faninsTest limit (places k (λ i. getD (now (fs .entry)) i 0)) ∷ widthTest (2 ^ k) loaded ∷ widthTest (2 ^ k) current ∷ []) ⌝ }
+{
+    let a = count_test(4, k);
+    if let Answer::Refused(_) = a {
+        return a;
+    }
+    let e = k as usize;
+    let b = fanins_test(&fs[0..e], limit);
+    if let Answer::Refused(_) = b {
+        return b;
+    }
+    let l = table_test(k, loaded);
+    if let Answer::Refused(_) = l {
+        return l;
+    }
+    table_test(k, current)
+}
+
+// 3 to 6, of the gates in turn.
+fn gates_test(s: Session) -> Answer
+    requires { ⌜ (s .n ≤ 10) × (s .m ≤ 40) ⌝ }
+    ensures { λ r. ⌜ r ≡ first (map (gateFault s) (upFrom 0 (s .m))) ⌝ }
+{
+    let n = s.n;
+    let m = s.m;
+    let fanins = s.fanins;
+    let mut g: u8 = 0;
+    while g < m {
+        let i = g as usize;
+        let b = 6 * i;
+        let a = gate_test(n + g, s.arity[i], &fanins[b..], s.loaded[i], s.current[i]);
+        if let Answer::Refused(_) = a {
+            return a;
+        }
+        g += 1;
+    }
+    Answer::Done
+}
+
+// The first of 3 to 7 that the session fails.
+pub fn state_fault(s: Session) -> Answer
+    ensures { λ r. ⌜ r ≡ stateFault s ⌝ }
+{
+    let n = s.n;
+    let m = s.m;
+    let p = s.p;
+    let a = counts_test(n, m, p);
+    if let Answer::Refused(_) = a {
+        return a;
+    }
+    let excluded = s.excluded;
+    let b = excluded_test(n, excluded);
+    if let Answer::Refused(_) = b {
+        return b;
+    }
+    let c = gates_test(s);
+    if let Answer::Refused(_) = c {
+        return c;
+    }
+    let outputs = s.outputs;
+    outputs_test(p, n + m, outputs)
+}
+
+// 10: any of 3 to 7.
+pub fn state_test(s: Session) -> Answer
+    ensures { λ r. ⌜ r ≡ stateTest s ⌝ }
+{
+    let a = state_fault(s);
+    if let Answer::Refused(_) = a {
+        return Answer::Refused(Refusal::InvalidState);
+    }
+    Answer::Done
 }

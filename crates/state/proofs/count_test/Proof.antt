@@ -1,4 +1,6 @@
-use Rattle.state.proofs.Laws.{count-low, count-high, count-fine}
+use mathlib.Core.Path.{sym}
+use Rattle.network.proofs.TestLaws.{count-i}
+use Rattle.state.proofs.Laws.{count-low, count-high}
 use Rattle.state.proofs.count_test.Statement.{statement}
 use Rattle.state.proofs.count_test.Tie as tie
 
@@ -9,7 +11,7 @@ returns-2 : tie.Need-returns-2
 returns-2 c = count-high _ _ (c .before .if1 .left) (c .if2 .taken)
 
 returns-3 : tie.Need-returns-3
-returns-3 c = count-fine _ _ (c .before .if1 .left) (c .if2 .left)
+returns-3 c = sym (count-i _ _ (c .before .if1 .left) (c .if2 .left))
 
 pub count-test-spec : {M : Type 1} → statement M
 count-test-spec = tie.close (tie.spec returns returns-2 returns-3)

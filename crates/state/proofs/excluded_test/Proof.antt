@@ -1,4 +1,4 @@
-use mathlib.Core.Path.{_≡_, refl, sym, _∙_}
+use mathlib.Core.Path.{_≡_, refl, _∙_}
 use mathlib.Core.List.{List, map}
 use Prim.Native.Nat.{ℕ, _-_, _*_, _^_, _≤_}
 use native.Mathlib.Omega.{arith}
@@ -7,7 +7,7 @@ use borrow.Author.Needs.{needs}
 use Rattle.bits.specs.Range.{upFrom}
 use Rattle.network.specs.declared.Answer.{Answer}
 use Rattle.network.specs.Tests.{first, widthTest, excludedTest}
-use Rattle.state.proofs.Laws.{refused, passed, ended}
+use Rattle.state.proofs.Laws.{row-refused, row-passed, row-ended}
 use Rattle.state.proofs.excluded_test.Statement.{statement}
 use Rattle.state.proofs.excluded_test.Tie as tie
 
@@ -40,7 +40,7 @@ returns : tie.Need-returns Inv-loop μ-loop
 returns c =
     let a = c .before .before .before .before .before .args in
     let h = c .before .before .before .before .loop in
-    refused (test (a .n) (a .t2)) (h .w) 16 (omega arith) (c .before .before .word-test .ensures) (c .enum-told .given .1) ∙ h .inv .1
+    row-refused (test (a .n) (a .t2)) (h .w) 16 (omega arith) (c .before .before .word-test .ensures) (c .enum-told .given .1) ∙ h .inv .1
 
 enum-told-2 : tie.Need-enum-told-2 Inv-loop μ-loop
 enum-told-2 c = search needs
@@ -55,13 +55,13 @@ loop-again : tie.Need-loop-again Inv-loop μ-loop
 loop-again c =
     let a = c .before .before .before .before .before .args in
     let h = c .before .before .before .before .loop in
-    (omega arith, passed (test (a .n) (a .t2)) (h .w) 16 (omega arith) (c .before .before .word-test .ensures) (c .enum-told2 .given .1) ∙ h .inv .1)
+    (omega arith, row-passed (test (a .n) (a .t2)) (h .w) 16 (omega arith) (c .before .before .word-test .ensures) (c .enum-told2 .given .1) ∙ h .inv .1)
 
 returns-2 : tie.Need-returns-2 Inv-loop μ-loop
 returns-2 c =
     let a = c .before .before .args in
     let h = c .before .loop in
-    ended (test (a .n) (a .t2)) (h .w) 16 (omega arith) ∙ h .inv .1
+    row-ended (test (a .n) (a .t2)) (h .w) 16 (omega arith) ∙ h .inv .1
 
 pub excluded-test-spec : {M : Type 1} → statement M
 excluded-test-spec =

@@ -7,7 +7,7 @@ use lib.ListN.{length}
 use borrow.Author.Needs.{needs}
 use Rattle.bits.specs.Range.{upFrom}
 use Rattle.network.specs.Tests.{first, faninTest, faninsTest}
-use Rattle.state.proofs.Laws.{refused, passed, ended}
+use Rattle.state.proofs.Laws.{row-refused, row-passed, row-ended}
 use Rattle.state.proofs.fanins_test.Statement.{statement}
 use Rattle.state.proofs.fanins_test.Tie as tie
 
@@ -31,7 +31,7 @@ returns : tie.Need-returns Inv-loop μ-loop
 returns c =
     let a = c .before .before .before .before .before .before .args in
     let h = c .before .before .before .before .loop in
-    refused (faninTest (a .limit) (a .fs .now)) (h .j) (length (a .fs .now)) (omega arith) (c .before .before .fanin-test .ensures) (c .enum-told .given .1) ∙ h .inv .1
+    row-refused (faninTest (a .limit) (a .fs .now)) (h .j) (length (a .fs .now)) (omega arith) (c .before .before .fanin-test .ensures) (c .enum-told .given .1) ∙ h .inv .1
 
 enum-told-2 : tie.Need-enum-told-2 Inv-loop μ-loop
 enum-told-2 c = search needs
@@ -46,13 +46,13 @@ loop-again : tie.Need-loop-again Inv-loop μ-loop
 loop-again c =
     let a = c .before .before .before .before .before .before .args in
     let h = c .before .before .before .before .loop in
-    (omega arith, passed (faninTest (a .limit) (a .fs .now)) (h .j) (length (a .fs .now)) (omega arith) (c .before .before .fanin-test .ensures) (c .enum-told2 .given .1) ∙ h .inv .1)
+    (omega arith, row-passed (faninTest (a .limit) (a .fs .now)) (h .j) (length (a .fs .now)) (omega arith) (c .before .before .fanin-test .ensures) (c .enum-told2 .given .1) ∙ h .inv .1)
 
 returns-2 : tie.Need-returns-2 Inv-loop μ-loop
 returns-2 c =
     let a = c .before .before .before .args in
     let h = c .before .loop in
-    ended (faninTest (a .limit) (a .fs .now)) (h .j) (length (a .fs .now)) (omega arith) ∙ h .inv .1
+    row-ended (faninTest (a .limit) (a .fs .now)) (h .j) (length (a .fs .now)) (omega arith) ∙ h .inv .1
 
 pub fanins-test-spec : {M : Type 1} → statement M
 fanins-test-spec =

@@ -1,0 +1,124 @@
+-- Words put in their places, counts, and one place a gate. Assumes nothing.
+use mathlib.Core.Path.{_≡_, refl, sym, ap, ap₂, _∙_, subst}
+use mathlib.Core.Bool.{Bool, cond, _&&_}
+use mathlib.Core.List.{List}
+use mathlib.Core.Logic.{_⊎_, inl, inr}
+use Prim.Native.Nat.{ℕ, zero, suc, _+_, _-_, _*_, _%_, _^_, _<_, _≤_}
+use native.Mathlib.Nat.{lt-of-le-of-lt}
+use native.Mathlib.Numerals.{add-one}
+use native.Mathlib.Omega.{arith}
+use native.Mathlib.Decide.{ℕ-discrete, decLt}
+use lib.Dec.{ltb}
+use lib.Bits.{bitAnd, and-le-l}
+use lib.ListN.{length, getD, set, replicate, getD-replicate}
+use lib.Pow.{pow-add, pow-mono, pow-pos}
+use lib.Seq.{getD-set-same, getD-set-other, ext-getD}
+use borrow.Author.Tests.{lt-ltb, le-ltb, ltb-true}
+use Rattle.bits.specs.Range.{count, places}
+use Rattle.bits.specs.Bit.{bit, tableOf}
+use Rattle.bits.specs.Cut.{Cut, wordCount}
+use Rattle.bits.proofs.BitLaws.{bit-and, bit-ext, bit-mask}
+use Rattle.bits.proofs.Ranges.{Changed, iff, lt-cases, length-places, places-at, places-ext, table-lt, bit-table}
+use Rattle.bits.proofs.Cuts.{countBy, count-ext, count-le, count-cut}
+use Rattle.network.specs.Flat.{wordOf}
+use Rattle.compatible.specs.Words.{perGate, onesIn}
+
+-- ## The words of a set
+
+pub cut-words : (n W L : ℕ) → Cut n W L → W ≡ wordCount n
+unfolding wordCount
+cut-words n W L cut = go (decLt n 6) (cut .whole)
+  where
+    go : Dec (n < 6) → ((W ≡ 1) × (L ≡ 2 ^ n)) ⊎ ((L ≡ 64) × (W * 64 ≡ 2 ^ n)) → W ≡ cond (ltb n 6) 1 (2 ^ (n - 6))
+    go (yes h) (inl e) = rw (lt-ltb n 6 h) (e .0)
+    go (yes h) (inr e) = let l : 2 ^ n ≤ 2 ^ 5 = pow-mono {j = 5} (omega arith) in absurd (omega (arith, e .1, pow-pos n))
+    go (no h) c =
+        let s : n ≡ n - 6 + 6 = omega arith in
+        let q : 2 ^ n ≡ 2 ^ (n - 6) * 64 = ap (λ (k : ℕ). 2 ^ k) s ∙ pow-add 2 (n - 6) 6 in
+        rw (le-ltb n 6 (omega arith)) (large q c)
+      where
+        large : 2 ^ n ≡ 2 ^ (n - 6) * 64 → ((W ≡ 1) × (L ≡ 2 ^ n)) ⊎ ((L ≡ 64) × (W * 64 ≡ 2 ^ n)) → W ≡ 2 ^ (n - 6)
+        large q (inl e) = omega (arith, e .0, e .1, cut .places, pow-pos (n - 6))
+        large q (inr e) = omega (arith, e .1)
+
+-- a place of word w is live where it is a pattern
+pub live-place : (n W L w b : ℕ) → Cut n W L → w < W → b < 64 → ltb b L ≡ ltb (w * 64 + b) (2 ^ n)
+live-place n W L w b cut hw hb =
+    iff (ltb b L) (ltb (w * 64 + b) (2 ^ n))
+    (λ e. lt-ltb (w * 64 + b) (2 ^ n) (cut .pattern w b hw (ltb-true b L e)))
+    (λ e. let r : (w * 64 + b) % 64 ≡ b = omega arith in lt-ltb b L (subst (λ (i : ℕ). i < L) r (cut .place (w * 64 + b) (ltb-true (w * 64 + b) (2 ^ n) e))))
+
+pub word-is : (n W L live w h : ℕ) (q : ℕ → Bool) → Cut n W L → live < 2 ^ 64 → ((b : ℕ) → bit live b ≡ ltb b L) → w < W
+    → ((b : ℕ) → b < 64 → bit h b ≡ q (w * 64 + b)) → bitAnd live h ≡ wordOf n q w
+unfolding wordOf
+word-is n W L live w h q cut small live-at hw set-at =
+    let p : ℕ → Bool = λ b. ltb (w * 64 + b) (2 ^ n) && q (w * 64 + b) in
+    bit-ext 64 (bitAnd live h) (tableOf 64 p) (lt-of-le-of-lt (and-le-l live h) small) (table-lt 64 p)
+    (λ b hb. bit-and live h b ∙ ap₂ (λ (x y : Bool). x && y) (live-at b ∙ live-place n W L w b cut hw hb) (set-at b hb) ∙ sym (bit-table 64 p b hb))
+
+-- one more word of each gate's set
+pub sets-step : (n W L live w m : ℕ) (l l′ hs : List ℕ) (q : ℕ → ℕ → Bool) → Cut n W L → live < 2 ^ 64 → ((b : ℕ) → bit live b ≡ ltb b L) → w < W
+    → ((b : ℕ) → b < 64 → (s : ℕ) → s < n + m → bit (getD hs s 0) b ≡ q s (w * 64 + b))
+    → ((g v : ℕ) → g < m → v < w → getD l (16 * g + v) 0 ≡ wordOf n (q (n + g)) v)
+    → ((g : ℕ) → g < m → getD l′ (16 * g + w) 0 ≡ bitAnd live (getD hs (n + g) 0))
+    → ((g v : ℕ) → v < w → getD l′ (16 * g + v) 0 ≡ getD l (16 * g + v) 0)
+    → (g v : ℕ) → g < m → v < w + 1 → getD l′ (16 * g + v) 0 ≡ wordOf n (q (n + g)) v
+sets-step n W L live w m l l′ hs q cut small live-at hw set-at done own kept g v hg hv =
+    lt-cases v w (omega arith) (λ h. kept g v h ∙ done g v hg h)
+    (λ e. subst (λ (i : ℕ). getD l′ (16 * g + i) 0 ≡ wordOf n (q (n + g)) i) (sym e)
+    (own g hg ∙ word-is n W L live w (getD hs (n + g) 0) (q (n + g)) cut small live-at hw (λ b hb. set-at b hb (n + g) (omega arith))))
+
+-- ## The ones of a set
+
+pub ones-step : (ws : List ℕ) (at w sum c : ℕ) → sum ≡ onesIn ws at w → c ≡ count 64 (bit (getD ws (at + w) 0)) → sum + c ≡ onesIn ws at (w + 1)
+unfolding onesIn
+ones-step ws at w sum c e h = rw add-one (ap₂ (λ (x y : ℕ). x + y) e h)
+
+pub ones-le : (ws : List ℕ) (at w : ℕ) → onesIn ws at w ≤ 64 * w
+unfolding onesIn
+ones-le ws at zero = omega arith
+ones-le ws at (suc w) = go (onesIn ws at w) (count 64 (bit (getD ws (at + w) 0))) (ones-le ws at w) (count-le 64 (bit (getD ws (at + w) 0)))
+  where
+    go : (a c : ℕ) → a ≤ 64 * w → c ≤ 64 → a + c ≤ 64 * suc w
+    go a c h l = omega arith
+
+pub ones-are : (n W L at : ℕ) (ws : List ℕ) (q : ℕ → Bool) → Cut n W L → ((w : ℕ) → w < W → getD ws (at + w) 0 ≡ wordOf n q w) → onesIn ws at W ≡ count (2 ^ n) q
+unfolding onesIn wordOf
+ones-are n W L at ws q cut words = by W (omega arith) ∙ count-cut n W L (2 ^ L - 1) q cut (bit-mask L)
+  where
+    by : (w : ℕ) → w ≤ W → onesIn ws at w ≡ countBy (2 ^ L - 1) w q
+    by zero h = refl
+    by (suc w) h =
+        let p : ℕ → Bool = λ b. ltb (w * 64 + b) (2 ^ n) && q (w * 64 + b) in
+        ap₂ (λ (x y : ℕ). x + y) (by w (omega arith))
+        (ap (λ (x : ℕ). count 64 (bit x)) (words w (omega arith))
+        ∙ count-ext 64 (bit (tableOf 64 p)) (λ b. bit (2 ^ L - 1) b && q (w * 64 + b))
+        (λ b hb. bit-table 64 p b hb ∙ ap (λ (x : Bool). x && q (w * 64 + b)) (sym (bit-mask L b ∙ live-place n W L w b cut (omega arith) hb))))
+
+-- ## One place a gate
+
+-- one more gate's word w, sixteen words a gate
+pub stored : (l : List ℕ) (p : ℕ → ℕ) (w i v : ℕ) → 16 * i + w < length l → ((q : ℕ) → q < i → getD l (16 * q + w) 0 ≡ p q) → v ≡ p i
+    → (q : ℕ) → q < i + 1 → getD (set l (16 * i + w) v) (16 * q + w) 0 ≡ p q
+stored l p w i v h so-far e q lq = go (ℕ-discrete q i)
+  where
+    go : Dec (q ≡ i) → getD (set l (16 * i + w) v) (16 * q + w) 0 ≡ p q
+    go (yes s) = rw s (getD-set-same l (16 * i + w) v 0 h ∙ e)
+    go (no n) = getD-set-other l (16 * i + w) (16 * q + w) v 0 (λ s. n (omega arith)) ∙ so-far q (omega arith)
+
+pub per-gate : (l : List ℕ) (p : ℕ → ℕ) (m : ℕ) → length l ≡ 40 → Changed (λ g v. p g) (replicate 40 0) l m → l ≡ perGate m p
+per-gate l p m h c = ext-getD 0 l (perGate m p) (h ∙ sym (length-places 40 f)) (λ g lg. go g (omega arith) (decLt g m) ∙ sym (places-at 0 40 f g (omega arith)))
+  where
+    f : ℕ → ℕ
+    f g = cond (ltb g m) (p g) 0
+
+    go : (g : ℕ) → g < 40 → Dec (g < m) → getD l g 0 ≡ f g
+    go g lg (yes lm) = rw (lt-ltb g m lm) (c .0 g lm)
+    go g lg (no n) = rw (le-ltb g m (omega arith)) (c .1 g (omega arith) ∙ getD-replicate {A = ℕ} 40 g 0 0 lg)
+
+pub per-gate-ext : (m : ℕ) (p q : ℕ → ℕ) → ((g : ℕ) → g < m → p g ≡ q g) → perGate m p ≡ perGate m q
+per-gate-ext m p q f = places-ext 40 (λ g. cond (ltb g m) (p g) 0) (λ g. cond (ltb g m) (q g) 0) (λ g lg. go g (decLt g m))
+  where
+    go : (g : ℕ) → Dec (g < m) → cond (ltb g m) (p g) 0 ≡ cond (ltb g m) (q g) 0
+    go g (yes h) = rw (lt-ltb g m h) (f g h)
+    go g (no h) = rw (le-ltb g m (omega arith))

@@ -1,0 +1,181 @@
+-- The three demands, proved. Assumes nothing.
+use mathlib.Core.Path.{_≡_, refl, sym, ap, _∙_, subst}
+use mathlib.Core.Logic.{⊎-elim, _↔_}
+use mathlib.Core.Bool.{true, cond}
+use mathlib.Core.List.{List, [], _∷_}
+use Prim.Native.Nat.{ℕ, _+_, _-_, _≤_, _<_}
+use native.Mathlib.Omega.{arith}
+use lib.Dec.{ltb}
+use lib.ListN.{length, getD}
+use borrow.Author.Tests.{le-ltb, lt-ltb}
+use Rattle.bits.proofs.Ranges.{length-places, places-at}
+use Rattle.bits.proofs.Logic.{clash}
+use Rattle.network.specs.declared.Session.{Session}
+use Rattle.network.specs.declared.TablesAnswer.the-variants as tables
+use Rattle.network.specs.declared.Refusal.the-variants.{Harm}
+use Rattle.network.specs.declared.Answer.{Answer}
+use Rattle.network.specs.declared.Answer.the-variants.{Done, Refused}
+use Rattle.network.specs.Net.{Net, isGate, patterns, Replacement}
+use Rattle.network.specs.Compatible.{compatibleCount, openTable}
+use Rattle.network.specs.Flat.{loadedNet}
+use Rattle.network.specs.Valid.{Shaped}
+use Rattle.network.specs.Tests.{orElse, first}
+use Rattle.network.specs.State.{stateTest}
+use Rattle.network.specs.Load.{loadDone, onward, readOf, opened, loadOf}
+use Rattle.network.specs.Write.{bytesOf}
+use Rattle.network.specs.Calls.{gateTest, tableTest, harmTest, exchangeTests, heldClosed, exchangeAnswer, exchanged, exchangeOf, verdictOf, gateTables, givenTables, tablesOf, Filled, roomTest, overwritten, filled, setWords, patternSetsOf, writeOf, countsFor, countsOf}
+use Rattle.network.specs.Sessions.{after, lastAccepted, NoHarm, FirstHarm}
+use Rattle.network.proofs.TestLaws.{count-e}
+use Rattle.network.proofs.Valid.{valid-e, state-e, state-i}
+use Rattle.network.proofs.Fresh.{Fresh}
+use Rattle.network.proofs.Exchanges.{loaded-length, loaded-inputs, gate-e, open-at, gates-most, after-is, after-valid, after-loaded}
+use Rattle.network.proofs.Reached.{loaded-fresh, loaded-shaped}
+use Rattle.network.proofs.Harm.{harm-done, harm-at}
+use Rattle.network.proofs.Demand3.{demand3-of, rule4-of}
+use Rattle.netfile.proofs.RoundTrip.{way-back}
+use Rattle.engine.specs.Demands.{Ends, Demand1, lone, Changes, Judged, Reached, Demand2, Demand3}
+use Rattle.engine.proofs.Outcomes.{file, ends, harm-only, tests-end, room-among, state-among, gate-among, table-among, closed-among, harm-among, read-among}
+
+-- ## Calls that fill a buffer with new words or bytes
+
+module _ (s : Session) (new buffer : List ℕ) where
+  abbrev fillTests : List Answer
+  fillTests = stateTest s ∷ roomTest (length new) buffer ∷ []
+
+  abbrev full-buffer : Filled
+  full-buffer = record { answer = Done; buffer = overwritten new buffer }
+
+  fills-end : Ends (filled (first fillTests) new buffer) full-buffer (9 ∷ 10 ∷ []) (λ r. record { answer = Refused r; buffer = buffer })
+  fills-end =
+      let ns : List ℕ = 9 ∷ 10 ∷ [] in
+      tests-end ns (λ a. filled a new buffer) fillTests (state-among ns refl s, (room-among ns refl (length new) buffer, tt))
+
+  fills-done : stateTest s ≡ Done → length new ≤ length buffer → filled (first fillTests) new buffer ≡ full-buffer
+  fills-done v l = rw (v, le-ltb (length buffer) (length new) l)
+
+-- ## Demand 1
+
+pub demand1 : Demand1
+unfolding loadOf tablesOf patternSetsOf exchangeOf exchangeAnswer verdictOf writeOf countsOf
+demand1 = record {
+  load = λ bytes. ends file (λ a. onward a (loadDone (opened (readOf bytes .session)))) (readOf bytes .answer) (read-among bytes);
+  tables = λ s g. let ns : List ℕ = 10 ∷ 11 ∷ [] in
+      tests-end ns (λ a. givenTables a (gateTables s g)) (stateTest s ∷ gateTest (loadedNet s) g ∷ [])
+      (state-among ns refl s, (gate-among ns refl (loadedNet s) g, tt));
+  patternSets = λ s buffer. fills-end s (setWords s (s .m)) buffer;
+  exchange = λ s r. let ns : List ℕ = 10 ∷ 11 ∷ 12 ∷ 13 ∷ [] in
+      let N = loadedNet s in
+      let shut = heldClosed s (r .signal) in
+      tests-end ns (λ a. exchanged a s r) (stateTest s ∷ exchangeTests N shut r)
+      (state-among ns refl s, (gate-among ns refl N (r .signal), (table-among ns refl N r, (closed-among ns (λ t. refl) N shut r, tt))));
+  verdict = λ s r. let ns : List ℕ = 10 ∷ 11 ∷ 12 ∷ 14 ∷ [] in
+      let N = loadedNet s in
+      let M = lone s r in
+      tests-end ns (λ a. a) (stateTest s ∷ gateTest N (r .signal) ∷ tableTest N r ∷ harmTest N M ∷ [])
+      (state-among ns refl s, (gate-among ns refl N (r .signal), (table-among ns refl N r, (harm-among ns (λ x i. refl) N M, tt))));
+  write = λ s buffer. fills-end s (bytesOf s) buffer;
+  counts = λ s. ends (10 ∷ []) (λ a. countsFor a s) (stateTest s) (state-among (10 ∷ []) refl s);
+}
+
+-- ## Demand 2: in every state that 10 does not refuse
+
+module _ (s : Session) (v : stateTest s ≡ Done) where
+  tables-are : (g : ℕ) → isGate (loadedNet s) g ≡ true → tablesOf s g ≡ tables.Given (gateTables s g)
+  unfolding tablesOf gateTest
+  tables-are g w = rw (v, w)
+
+  counts-are : (g : ℕ) → g < s .m → getD (countsOf s .counts) g 0 ≡ compatibleCount (loadedNet s) (s .n + g)
+  unfolding countsOf
+  counts-are g l =
+      let most = count-e 40 (s .m) (valid-e s (state-e s v) .gates) in
+      let at : ℕ → ℕ = λ g. cond (ltb g (s .m)) (compatibleCount (loadedNet s) (s .n + g)) 0 in
+      ap (λ (a : Answer). getD (countsFor a s .counts) g 0) v
+      ∙ places-at 0 40 at g (omega arith)
+      ∙ ap (λ b. cond b (compatibleCount (loadedNet s) (s .n + g)) 0) (lt-ltb g (s .m) l)
+
+-- the verdict of a lone replacement is the search for harm
+verdict-is : (s : Session) (r : Replacement) → Judged s r → verdictOf s r ≡ harmTest (loadedNet s) (lone s r)
+unfolding verdictOf gateTest tableTest
+verdict-is s r j = rw (j .0, j .1, j .2) (last (harmTest (loadedNet s) (lone s r)))
+  where
+    last : (a : Answer) → orElse a Done ≡ a
+    last Done = refl
+    last (Refused f) = refl
+
+-- what is said of an answer, said of one that equals it
+same-answer : {P : Type 0} (a b c : Answer) → a ≡ b → (b ≡ c) ↔ P → (a ≡ c) ↔ P
+same-answer a b c e h = (λ k. h .0 (sym e ∙ k), λ p. e ∙ h .1 p)
+
+module _ (s : Session) (r : Replacement) (j : Judged s r) where
+  abbrev L : Net
+  L = loadedNet s
+
+  shown-at : (x i : ℕ) → (verdictOf s r ≡ Refused (Harm x i)) ↔ FirstHarm L (lone s r) x i
+  shown-at x i = same-answer _ _ _ (verdict-is s r j) (harm-at L (lone s r) x i)
+
+  harmless-is : (verdictOf s r ≡ Done) ↔ NoHarm L (lone s r) (patterns L)
+  harmless-is = same-answer _ _ _ (verdict-is s r j) (harm-done L (lone s r))
+
+  harmful-is : ((x : ℕ) × (i : ℕ) × (verdictOf s r ≡ Refused (Harm x i))) ↔ ((x : ℕ) × (i : ℕ) × Changes s r x i)
+  harmful-is = (
+    λ f. let h = shown-at (f .0) (f .1) .0 (f .2) in
+        (f .0, f .1, (h .pattern, h .output, h .harm)),
+    λ f. ⊎-elim (λ e. clash (f .2 .2) (harm-done L (lone s r) .0 e (f .0) (f .1) (f .2 .0) (f .2 .1)))
+        (λ h. (h .0, h .1, verdict-is s r j ∙ h .2)) (harm-only L (lone s r)),
+  )
+
+-- ## In every session that a load and exchanges give
+
+module _ (s : Session) (fresh : Fresh s) (rs : List Replacement) where
+  -- the open table that the session holds is that of rule 7
+  after-open : (g : ℕ) → isGate (loadedNet s) g ≡ true → getD (after s rs .open_tables) (g - after s rs .n) 0 ≡ openTable (loadedNet s) g
+  after-open g w =
+      let b = gate-e s g w in
+      let back : loadedNet s .inputs + (g - s .n) ≡ g = omega (arith, loaded-inputs s) in
+      ap (λ (t : Session). getD (t .open_tables) (g - t .n) 0) (after-is s fresh rs)
+      ∙ ap (λ (ts : List ℕ). getD ts (g - s .n) 0) (fresh .held)
+      ∙ open-at (loadedNet s) (g - s .n) (omega (arith, gates-most s fresh)) (omega (arith, loaded-length s))
+      ∙ ap (openTable (loadedNet s)) back
+
+  -- exchanges leave the lengths of a session's arrays
+  after-shaped : Shaped s → Shaped (after s rs)
+  after-shaped shape =
+      subst Shaped (sym (after-is s fresh rs)) (record {
+        words = shape .words;
+        arities = shape .arities;
+        slots = shape .slots;
+        loads = shape .loads;
+        currents = length-places 40 (λ g. lastAccepted (loadedNet s) rs (s .n + g) (getD (s .loaded) g 0));
+        opens = shape .opens;
+        outs = shape .outs;
+        wide = shape .wide;
+      })
+
+  after-reached : Shaped s → Reached s (after s rs)
+  after-reached shape = record {
+    valid = state-i (after s rs) (after-valid s fresh rs);
+    shaped = after-shaped shape;
+    loaded = after-loaded s fresh rs;
+    opens = after-open;
+  }
+
+pub demand2 : Demand2
+unfolding patternSetsOf writeOf
+demand2 = record {
+  tables = λ s g v. tables-are s v g;
+  patternSets = λ s buffer. fills-done s (setWords s (s .m)) buffer;
+  counts = λ s g v. counts-are s v g;
+  harmful = harmful-is;
+  shown = λ s r x i j. shown-at s r j x i;
+  harmless = harmless-is;
+  written = λ s buffer. fills-done s (bytesOf s) buffer;
+  wayBack = λ s shape v. let w = way-back s shape (state-e s v) .1 in
+      (w .session, w .reads, w .loaded, w .current);
+  reached = λ bytes s rs b loads. after-reached s (loaded-fresh bytes s loads) rs (loaded-shaped bytes s b loads);
+  rule4 = rule4-of;
+}
+
+-- ## Demand 3
+
+pub demand3 : Demand3
+demand3 = demand3-of

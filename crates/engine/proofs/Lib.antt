@@ -1,0 +1,4 @@
+pub mod Laws
+pub mod Judged
+pub mod Outcomes
+pub mod Demands

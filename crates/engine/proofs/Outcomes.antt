@@ -1,0 +1,205 @@
+-- The tests of each call refuse by the numbers that demand 1 lists, and by no other. Assumes nothing.
+use mathlib.Core.Path.{_≡_, refl}
+use mathlib.Core.Logic.{_⊎_, inl, inr, ⊎-elim}
+use mathlib.Core.Bool.{Bool, true, false, not, cond, _&&_}
+use mathlib.Core.List.{List, [], _∷_, map}
+use Prim.Native.Nat.{ℕ, zero, suc, _+_, _*_, _-_, _^_}
+use lib.Dec.{leb, ltb, eqb}
+use lib.ListN.{length, getD, take, drop}
+use Rattle.bits.specs.declared.Found.{Found}
+use Rattle.bits.specs.declared.Found.the-variants.{At, Nothing}
+use Rattle.bits.specs.Range.{upFrom, smallest}
+use Rattle.network.specs.declared.Session.{Session}
+use Rattle.network.specs.declared.Loaded.{Loaded}
+use Rattle.network.specs.declared.Refusal.{Refusal}
+use Rattle.network.specs.declared.Refusal.the-variants.{Truncated, UnexpectedMark, OutOfBounds, FaninNotEarlier, FaninRepeated, BitPastEnd, NotASignal, TrailingBytes, BufferTooShort, InvalidState, NotAGate, TableTooWide, ClosedEntry, Harm}
+use Rattle.network.specs.declared.Answer.{Answer}
+use Rattle.network.specs.declared.Answer.the-variants.{Done, Refused}
+use Rattle.network.specs.Net.{Net, isGate, entries, patternOrder, Replacement}
+use Rattle.network.specs.DontCares.{harms}
+use Rattle.network.specs.Tests.{refuseIf, orElse, first, lengthTest, mark, markTest, countTest, member, faninTest, faninsTest, widthTest, excludedTest, outputTest}
+use Rattle.network.specs.State.{stateFault, asInvalid, stateTest}
+use Rattle.network.specs.Load.{started, onward, outputTests, outputRecord, withOutput, readOutputs, faninsIn, afterFanins, tableIn, gateTests, gateRecord, withGate, readGates, setBytes, excludedIn, withExcluded, isExcluded, excludedTests, excludedRecord, readBody, headerTests, headerRecord, readOf}
+use Rattle.network.specs.Calls.{gateTest, fits, tableTest, alters, entryFound, closedTest, outputFound, harmIn, harmTest, roomTest}
+use Rattle.engine.specs.Demands.{Numbered, Ends}
+
+-- ## Answers
+
+-- Done, or a refusal by one of these numbers
+abbrev pub Among : List ℕ → Answer → Type 0
+Among ns Done = Unit {0}
+Among ns (Refused r) = Numbered ns r
+
+-- a call that goes by such an answer
+pub ends : {A : Type 0} (ns : List ℕ) (left : Answer → A) (a : Answer) → Among ns a → Ends (left a) (left Done) ns (λ r. left (Refused r))
+ends ns left Done p = inl refl
+ends ns left (Refused r) p = inr (r, p, refl)
+
+-- the search for harm gives 14 or nothing
+abbrev HarmOnly : Answer → Type 0
+HarmOnly a = (a ≡ Done) ⊎ ((x : ℕ) × (i : ℕ) × (a ≡ Refused (Harm x i)))
+
+pub harm-only : (L M : Net) → HarmOnly (harmTest L M)
+unfolding harmTest
+harm-only L M = go (patternOrder L)
+  where
+    found : (x : ℕ) (f : Found) (rest : Answer) → HarmOnly rest → HarmOnly (orElse (outputFound x f) rest)
+    found x (At i) rest h = inr (x, i, refl)
+    found x Nothing rest h = h
+
+    go : (xs : List ℕ) → HarmOnly (harmIn L M xs)
+    go [] = inl refl
+    go (x ∷ xs) = found x (smallest (length (L .outputs)) (harms L M x)) (harmIn L M xs) (go xs)
+
+module _ (ns : List ℕ) where
+  if-among : (b : Bool) (r : Refusal) → Numbered ns r → Among ns (refuseIf b r)
+  if-among true r p = p
+  if-among false r p = tt
+
+  or-among : (a b : Answer) → Among ns a → Among ns b → Among ns (orElse a b)
+  or-among Done b p q = q
+  or-among (Refused r) b p q = p
+
+  -- each of the tests
+  abbrev pub Each : List Answer → Type 0
+  Each [] = Unit {0}
+  Each (a ∷ rest) = Among ns a × Each rest
+
+  first-among : (tests : List Answer) → Each tests → Among ns (first tests)
+  first-among [] p = tt
+  first-among (a ∷ rest) p = or-among a (first rest) (p .0) (first-among rest (p .1))
+
+  -- a call that goes by a list of tests
+  pub tests-end : {A : Type 0} (left : Answer → A) (tests : List Answer) → Each tests → Ends (left (first tests)) (left Done) ns (λ r. left (Refused r))
+  tests-end left tests p = ends ns left (first tests) (first-among tests p)
+
+  -- one test for each number
+  map-among : (p : ℕ → Answer) → ((i : ℕ) → Among ns (p i)) → (l : List ℕ) → Among ns (first (map p l))
+  map-among p h [] = tt
+  map-among p h (i ∷ l) = or-among (p i) (first (map p l)) (h i) (map-among p h l)
+
+  -- ## 9 to 14
+
+  pub room-among : Numbered ns BufferTooShort → (needed : ℕ) (buffer : List ℕ) → Among ns (roomTest needed buffer)
+  room-among p needed buffer = if-among (ltb (length buffer) needed) BufferTooShort p
+
+  pub state-among : Numbered ns InvalidState → (s : Session) → Among ns (stateTest s)
+  unfolding stateTest
+  state-among p s = go (stateFault s)
+    where
+      go : (a : Answer) → Among ns (asInvalid a)
+      go Done = tt
+      go (Refused r) = p
+
+  pub gate-among : Numbered ns NotAGate → (N : Net) (g : ℕ) → Among ns (gateTest N g)
+  unfolding gateTest
+  gate-among p N g = if-among (not (isGate N g)) NotAGate p
+
+  pub table-among : Numbered ns TableTooWide → (N : Net) (r : Replacement) → Among ns (tableTest N r)
+  unfolding tableTest
+  table-among p N r = if-among (not (fits N r)) TableTooWide p
+
+  pub closed-among : ((t : ℕ) → Numbered ns (ClosedEntry t)) → (N : Net) (shut : ℕ → Bool) (r : Replacement) → Among ns (closedTest N shut r)
+  unfolding closedTest
+  closed-among p N shut r = go (smallest (entries N (r .signal)) (λ t. shut t && alters N r t))
+    where
+      go : (f : Found) → Among ns (entryFound f)
+      go (At t) = p t
+      go Nothing = tt
+
+  pub harm-among : ((x i : ℕ) → Numbered ns (Harm x i)) → (L M : Net) → Among ns (harmTest L M)
+  harm-among p L M = ⊎-elim (λ e. rw e tt) (λ f. rw (f .2) (p (f .0) (f .1))) (harm-only L M)
+
+-- ## 1 to 8
+
+abbrev pub file : List ℕ
+file = 1 ∷ 2 ∷ 3 ∷ 4 ∷ 5 ∷ 6 ∷ 7 ∷ 8 ∷ []
+
+length-among : (size : ℕ) (rest : List ℕ) → Among file (lengthTest size rest)
+length-among size rest = if-among file (ltb (length rest) size) Truncated refl
+
+mark-among : (due : ℕ) (rest : List ℕ) → Among file (markTest due rest)
+unfolding markTest
+mark-among due rest = go (ltb (length rest) 2)
+  where
+    go : (b : Bool) → Among file (cond b (Refused Truncated) (refuseIf (not (eqb (mark rest) due)) UnexpectedMark))
+    go true = refl
+    go false = if-among file (not (eqb (mark rest) due)) UnexpectedMark refl
+
+count-among : (most x : ℕ) → Among file (countTest most x)
+count-among most x = if-among file (not (leb 1 x && leb x most)) OutOfBounds refl
+
+fanins-among : (limit : ℕ) (fs : List ℕ) → Among file (faninsTest limit fs)
+unfolding faninsTest faninTest
+fanins-among limit fs =
+    map-among file (faninTest limit fs)
+    (λ j.
+    let late = not (ltb (getD fs j 0) limit) in
+    let again = member (getD fs j 0) (take j fs) in
+    first-among file (refuseIf late FaninNotEarlier ∷ refuseIf again FaninRepeated ∷ [])
+    (if-among file late FaninNotEarlier refl, (if-among file again FaninRepeated refl, tt)))
+    (upFrom 0 (length fs))
+
+width-among : (bits x : ℕ) → Among file (widthTest bits x)
+width-among bits x = if-among file (not (ltb x (2 ^ bits))) BitPastEnd refl
+
+excluded-among : (n : ℕ) (words : List ℕ) → Among file (excludedTest n words)
+unfolding excludedTest
+excluded-among n words = map-among file (λ w. widthTest (2 ^ n - 64 * w) (getD words w 0)) (λ w. width-among (2 ^ n - 64 * w) (getD words w 0)) (upFrom 0 16)
+
+output-among : (signals x : ℕ) → Among file (outputTest signals x)
+output-among signals x = if-among file (not (ltb x signals)) NotASignal refl
+
+-- ## Record after record
+
+onward-among : (a : Answer) (l : Loaded) → Among file a → Among file (l .answer) → Among file (onward a l .answer)
+onward-among Done l p q = q
+onward-among (Refused r) l p q = p
+
+outputs-among : (c i : ℕ) (t : Session) (rest : List ℕ) → Among file (readOutputs c i t rest .answer)
+unfolding readOutputs outputRecord
+outputs-among zero i t rest = onward-among (refuseIf (leb 1 (length rest)) TrailingBytes) _ (if-among file (leb 1 (length rest)) TrailingBytes refl) tt
+outputs-among (suc c) i t rest =
+    let x = getD rest 2 0 in
+    onward-among (outputRecord (t .n + t .m) rest) _
+    (first-among file (outputTests (t .n + t .m) rest) (mark-among 0x4E4F rest, (length-among 3 rest, (output-among (t .n + t .m) x, tt))))
+    (outputs-among c (i + 1) (withOutput t i x) (drop 3 rest))
+
+gates-among : (c g : ℕ) (t : Session) (rest : List ℕ) → Among file (readGates c g t rest .answer)
+unfolding readGates gateRecord
+gates-among zero g t rest = outputs-among (t .p) 0 t rest
+gates-among (suc c) g t rest =
+    let k = getD rest 2 0 in
+    onward-among (gateRecord (t .n + g) rest) _
+    (first-among file (gateTests (t .n + g) rest) (
+      mark-among 0x4E47 rest,
+      (
+        length-among 3 rest,
+        (count-among 4 k, (length-among (k + 2) (drop 3 rest), (fanins-among (t .n + g) (faninsIn rest), (width-among (2 ^ k) (tableIn rest), tt)))),
+      ),
+    ))
+    (gates-among c (g + 1) (withGate t g k (faninsIn rest) (tableIn rest)) (drop 2 (afterFanins rest)))
+
+body-among : (t : Session) (rest : List ℕ) → Among file (readBody t rest .answer)
+unfolding readBody excludedRecord
+body-among t rest = go (isExcluded rest)
+  where
+    behind : Loaded
+    behind = readGates (t .m) 0 (withExcluded t (excludedIn (t .n) rest)) (drop (setBytes (t .n)) (drop 2 rest))
+
+    go : (b : Bool) → Among file (cond b (onward (excludedRecord (t .n) rest) behind) (readGates (t .m) 0 t rest) .answer)
+    go true =
+        onward-among (excludedRecord (t .n) rest) behind
+        (first-among file (excludedTests (t .n) rest) (length-among (setBytes (t .n)) (drop 2 rest), (excluded-among (t .n) (excludedIn (t .n) rest), tt)))
+        (gates-among (t .m) 0 (withExcluded t (excludedIn (t .n) rest)) (drop (setBytes (t .n)) (drop 2 rest)))
+    go false = gates-among (t .m) 0 t rest
+
+pub read-among : (bytes : List ℕ) → Among file (readOf bytes .answer)
+unfolding readOf headerRecord
+read-among bytes =
+    let n = getD bytes 2 0 in
+    let m = getD bytes 3 0 in
+    let p = getD bytes 4 0 in
+    onward-among (headerRecord bytes) _
+    (first-among file (headerTests bytes) (mark-among 0x4E49 bytes, (length-among 5 bytes, (count-among 10 n, (count-among 40 m, (count-among 8 p, tt))))))
+    (body-among (started n m p) (drop 5 bytes))

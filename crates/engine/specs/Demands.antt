@@ -1,0 +1,122 @@
+-- The user's three demands, each as one type, over the definitions that the calls' contracts cite. Assumes nothing.
+-- A call of this crate gives what its definition gives: load loadOf, tables tablesOf, pattern_sets patternSetsOf, exchange exchangeOf,
+-- verdict verdictOf, write writeOf, counts countsOf.
+use mathlib.Core.Path.{_≡_}
+use mathlib.Core.Logic.{_⊎_, _↔_}
+use mathlib.Core.Bool.{true}
+use mathlib.Core.List.{List, [], _∷_}
+use Prim.Native.Nat.{ℕ, _+_, _-_, _<_, _≤_}
+use lib.ListN.{length, getD}
+use Rattle.network.specs.declared.Session.{Session}
+use Rattle.network.specs.declared.Refusal.{Refusal}
+use Rattle.network.specs.declared.Refusal.the-variants.{Harm}
+use Rattle.network.specs.declared.Answer.the-variants.{Done, Refused}
+use Rattle.network.specs.declared.TablesAnswer.the-variants as tables
+use Rattle.network.specs.Net.{Net, isGate, patterns, Replacement, replaced}
+use Rattle.network.specs.DontCares.{sdc, cdc, full, harms}
+use Rattle.network.specs.Compatible.{compatibleCount, openTable}
+use Rattle.network.specs.Flat.{loadedNet, currentNet}
+use Rattle.network.specs.Valid.{Shaped}
+use Rattle.network.specs.Refusals.{numberOf}
+use Rattle.network.specs.Tests.{member}
+use Rattle.network.specs.State.{stateTest}
+use Rattle.network.specs.Load.{loadDone, loadRefused, readOf, opened, loadOf}
+use Rattle.network.specs.Write.{bytesOf}
+use Rattle.network.specs.Calls.{fits, stored, exchangeOf, verdictOf, gateTables, tablesOf, overwritten, setWords, patternSetsOf, writeOf, countsOf, countsFor}
+use Rattle.network.specs.Sessions.{after, Demand3Of, NoHarm, FirstHarm, Rule4Of}
+
+-- ## Demand 1: for every file, buffer, table and session state, a call ends in one of the listed outcomes, or in a numbered refusal
+-- that changes neither state nor lent buffer
+
+-- a refusal whose number is one of these
+abbrev pub Numbered : List ℕ → Refusal → Type 0
+Numbered ns r = member (numberOf r) ns ≡ true
+
+-- what a call leaves is `done`, or else `refused r` with a refusal r by one of the numbers
+abbrev pub Ends : {A : Type 0} → A → (done : A) → List ℕ → (refused : Refusal → A) → Type 0
+Ends left done ns refused = (left ≡ done) ⊎ ((r : Refusal) × Numbered ns r × (left ≡ refused r))
+
+pub record Demand1 : Type 0 where
+  -- a loaded network, its open tables with it; or no state
+  pub load : (bytes : List ℕ) → Ends (loadOf bytes) (loadDone (opened (readOf bytes .session))) (1 ∷ 2 ∷ 3 ∷ 4 ∷ 5 ∷ 6 ∷ 7 ∷ 8 ∷ []) loadRefused
+  -- a gate's tables
+  pub tables : (s : Session) (g : ℕ) → Ends (tablesOf s g) (tables.Given (gateTables s g)) (10 ∷ 11 ∷ []) tables.Refused
+  -- filled pattern words; a refusal leaves the buffer
+  pub patternSets : (s : Session) (buffer : List ℕ)
+      → Ends (patternSetsOf s buffer) (record { answer = Done; buffer = overwritten (setWords s (s .m)) buffer }) (9 ∷ 10 ∷ [])
+      (λ r. record { answer = Refused r; buffer = buffer })
+  -- an exchanged gate; a refusal leaves the session
+  pub exchange : (s : Session) (r : Replacement)
+      → Ends (exchangeOf s r) (record { answer = Done; session = stored s r }) (10 ∷ 11 ∷ 12 ∷ 13 ∷ []) (λ f. record { answer = Refused f; session = s })
+  -- a verdict: harmless, or else 14 names the harm
+  pub verdict : (s : Session) (r : Replacement) → Ends (verdictOf s r) Done (10 ∷ 11 ∷ 12 ∷ 14 ∷ []) Refused
+  -- a written file; a refusal leaves the buffer
+  pub write : (s : Session) (buffer : List ℕ)
+      → Ends (writeOf s buffer) (record { answer = Done; buffer = overwritten (bytesOf s) buffer }) (9 ∷ 10 ∷ [])
+      (λ r. record { answer = Refused r; buffer = buffer })
+  -- the number of patterns in H of each gate
+  pub counts : (s : Session) → Ends (countsOf s) (countsFor Done s) (10 ∷ []) (λ r. countsFor (Refused r) s)
+
+-- ## Demand 2: the tables are 01's, a lone replacement is judged exactly, and a network written and read again is the same
+
+-- each element is a byte
+abbrev pub Bytes : List ℕ → Type 0
+Bytes l = (i : ℕ) → getD l i 0 < 256
+
+-- the current network with one gate replaced
+abbrev pub lone : Session → Replacement → Net
+lone s r = replaced (currentNet s) (r ∷ [])
+
+-- the pattern x, which is not excluded, changes output i
+abbrev pub Changes : Session → Replacement → ℕ → ℕ → Type 0
+Changes s r x i = (x < patterns (loadedNet s)) × (i < length (loadedNet s .outputs)) × (harms (loadedNet s) (lone s r) x i ≡ true)
+
+-- the state s, that 10 does not refuse, and a replacement that 11 and 12 do not
+abbrev pub Judged : Session → Replacement → Type 0
+Judged s r = (stateTest s ≡ Done) × (isGate (loadedNet s) (r .signal) ≡ true) × (fits (loadedNet s) r ≡ true)
+
+-- what a session t that exchanges gave, from the session s of a load, has
+pub record Reached (s t : Session) : Type 0 where
+  pub valid : stateTest t ≡ Done
+  pub shaped : Shaped t
+  pub loaded : loadedNet t ≡ loadedNet s
+  -- the open tables that it holds are rule 7's
+  pub opens : (g : ℕ) → isGate (loadedNet s) g ≡ true → getD (t .open_tables) (g - t .n) 0 ≡ openTable (loadedNet s) g
+
+pub record Demand2 : Type 0 where
+  -- the don't-care tables of each gate equal 01's definitions, and the open table is the one held
+  pub tables : (s : Session) (g : ℕ) → stateTest s ≡ Done → isGate (loadedNet s) g ≡ true
+      → tablesOf s g
+      ≡ tables.Given (record {
+        sdc = sdc (currentNet s) g;
+        cdc = cdc (currentNet s) g;
+        full = full (currentNet s) g;
+        open_table = getD (s .open_tables) (g - s .n) 0;
+      })
+  -- so do the words of all gates' ODC and H, in every buffer that is long enough
+  pub patternSets : (s : Session) (buffer : List ℕ) → stateTest s ≡ Done → length (setWords s (s .m)) ≤ length buffer
+      → patternSetsOf s buffer ≡ record { answer = Done; buffer = overwritten (setWords s (s .m)) buffer }
+  -- and the number of patterns in H of each gate
+  pub counts : (s : Session) (g : ℕ) → stateTest s ≡ Done → g < s .m → getD (countsOf s .counts) g 0 ≡ compatibleCount (loadedNet s) (s .n + g)
+  -- a lone replacement is found harmful exactly when some pattern that is not excluded changes an output
+  pub harmful : (s : Session) (r : Replacement) → Judged s r
+      → ((x : ℕ) × (i : ℕ) × (verdictOf s r ≡ Refused (Harm x i))) ↔ ((x : ℕ) × (i : ℕ) × Changes s r x i)
+  -- the pattern and the output that are shown: the smallest pattern and, there, the lowest output
+  pub shown : (s : Session) (r : Replacement) (x i : ℕ) → Judged s r → (verdictOf s r ≡ Refused (Harm x i)) ↔ FirstHarm (loadedNet s) (lone s r) x i
+  -- and else harmless
+  pub harmless : (s : Session) (r : Replacement) → Judged s r → (verdictOf s r ≡ Done) ↔ NoHarm (loadedNet s) (lone s r) (patterns (loadedNet s))
+  -- a network is written into every buffer that is long enough
+  pub written : (s : Session) (buffer : List ℕ) → stateTest s ≡ Done → length (bytesOf s) ≤ length buffer
+      → writeOf s buffer ≡ record { answer = Done; buffer = overwritten (bytesOf s) buffer }
+  -- and read again it is the same network
+  pub wayBack : (s : Session) → Shaped s → stateTest s ≡ Done
+      → (t : Session) × (loadOf (bytesOf s) ≡ loadDone t) × (loadedNet t ≡ currentNet s) × (currentNet t ≡ currentNet s)
+  -- all this holds in every session that a load and exchanges give
+  pub reached : (bytes : List ℕ) (s : Session) (rs : List Replacement) → Bytes bytes → loadOf bytes ≡ loadDone s → Reached s (after s rs)
+  -- and there a lone replacement is harmless exactly when it alters only entries of the full table
+  pub rule4 : Rule4Of
+
+-- ## Demand 3: of every list of bytes that loads and every list of exchanges
+
+abbrev pub Demand3 : Type 0
+Demand3 = Demand3Of

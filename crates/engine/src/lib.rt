@@ -1,0 +1,184 @@
+// The calls of the engine. None has a `requires`: whatever is passed, a call gives what its definition says, refusals included.
+ghost use mathlib.Core.Path.{_≡_};
+ghost use mathlib.Core.Bool.{Bool, not, _&&_};
+ghost use mathlib.Core.List.{List, [], _∷_};
+ghost use Prim.Native.Nat.{ℕ, _+_, _-_, _*_, _^_, _<_, _≤_};
+ghost use lib.Dec.{leb, ltb};
+ghost use lib.ListN.{length, getD};
+ghost use Rattle.bits.specs.Range.{smallest};
+ghost use Rattle.bits.specs.Bit.{bit, differs};
+ghost use Rattle.network.specs.declared.Answer.the-variants.{Done};
+ghost use Rattle.network.specs.Flat.{loadedNet, currentNet};
+ghost use Rattle.network.specs.Tests.{first};
+ghost use Rattle.network.specs.State.{stateFault, stateTest};
+ghost use Rattle.network.specs.Load.{loadOf, loadDone, opened};
+ghost use Rattle.network.specs.Write.{bytesOf};
+ghost use Rattle.network.specs.Calls.{gateTest, tableTest, entryFound, exchangeAnswer, exchangeOf, verdictOf, tablesOf, writeAnswer, writeOf, countsOf};
+use network::Answer;
+use network::Counts;
+use network::Exchanged;
+use network::Loaded;
+use network::Refusal;
+use network::Session;
+use network::WriteAnswer;
+
+// The lowest entry of k fan-ins' tables that differs and is not open.
+fn first_closed(k: u8, loaded: u64, table: u64, opens: u64) -> Answer
+    requires { ⌜ k ≤ 4 ⌝ }
+    ensures { λ r. ⌜ r ≡ entryFound (smallest (2 ^ k) (λ t. not (bit opens t) && differs (bit loaded t) (bit table t))) ⌝ }
+{
+    let entries = entries::entry_count(network::place(k));
+    let altered = (loaded ^ table) & (bits::invert(opens) & bits::mask(entries));
+    if altered == 0 {
+        return Answer::Done;
+    }
+    let t = bits::first(altered);
+    Answer::Refused(Refusal::ClosedEntry(t as usize))
+}
+
+// 10, then 11.
+fn gate_test(s: Session, gate: usize) -> Answer
+    ensures { λ r. ⌜ r ≡ first (stateTest s ∷ gateTest (loadedNet s) gate ∷ []) ⌝ }
+{
+    let v = state::state_test(s);
+    if let Answer::Refused(_) = v {
+        return v;
+    }
+    let n = s.n as usize;
+    let m = s.m as usize;
+    if gate < n {
+        return Answer::Refused(Refusal::NotAGate);
+    }
+    if n + m <= gate {
+        return Answer::Refused(Refusal::NotAGate);
+    }
+    Answer::Done
+}
+
+// 10, 11, then 12.
+fn table_test(s: Session, gate: usize, table: u64) -> Answer
+    ensures { λ r. ⌜ r ≡ first (stateTest s ∷ gateTest (loadedNet s) gate ∷ tableTest (loadedNet s) (record { signal = gate; table = table }) ∷ []) ⌝ }
+{
+    let a = gate_test(s, gate);
+    if let Answer::Refused(_) = a {
+        return a;
+    }
+    let n = s.n as usize;
+    let g = gate - n;
+    let k = s.arity[g];
+    let w = state::table_test(k, table);
+    if let Answer::Refused(_) = w {
+        return Answer::Refused(Refusal::TableTooWide);
+    }
+    Answer::Done
+}
+
+// What an exchange is answered: the first of 10 to 13 that applies.
+fn exchange_answer(s: Session, gate: usize, table: u64) -> Answer
+    ensures { λ r. ⌜ r ≡ exchangeAnswer s (record { signal = gate; table = table }) ⌝ }
+{
+    let a = table_test(s, gate, table);
+    if let Answer::Refused(_) = a {
+        return a;
+    }
+    let n = s.n as usize;
+    let g = gate - n;
+    let k = s.arity[g];
+    let loaded = s.loaded[g];
+    let opens = s.open_tables[g];
+    first_closed(k, loaded, table, opens)
+}
+
+// Sets a gate's current table, where the session's compatible sets leave it free.
+pub fn exchange(s: Session, gate: usize, table: u64) -> Exchanged
+    ensures { λ r. ⌜ r ≡ exchangeOf s (record { signal = gate; table = table }) ⌝ }
+{
+    let a = exchange_answer(s, gate, table);
+    if let Answer::Refused(_) = a {
+        return Exchanged {
+            answer: a,
+            session: s,
+        };
+    }
+    let n = s.n as usize;
+    let g = gate - n;
+    let mut t = s;
+    t.current[g] = table;
+    Exchanged {
+        answer: Answer::Done,
+        session: t,
+    }
+}
+
+// Of the current network with one gate replaced, against the loaded outputs.
+pub fn verdict(s: Session, gate: usize, table: u64) -> Answer
+    ensures { λ r. ⌜ r ≡ verdictOf s (record { signal = gate; table = table }) ⌝ }
+{
+    let a = table_test(s, gate, table);
+    if let Answer::Refused(_) = a {
+        return a;
+    }
+    let n = s.n as usize;
+    let g = gate - n;
+    verdict::harm(s, g, table)
+}
+
+// The number of patterns in the compatible set of each gate.
+pub fn counts(s: Session) -> Counts
+    ensures { λ r. ⌜ r ≡ countsOf s ⌝ }
+{
+    let v = state::state_test(s);
+    if let Answer::Refused(_) = v {
+        return Counts {
+            answer: v,
+            counts: [0u64; 40],
+        };
+    }
+    let c = compatible::counts(s);
+    Counts {
+        answer: Answer::Done,
+        counts: c,
+    }
+}
+
+// The session of a network that was read, with the open tables of its gates.
+fn with_open_tables(s: Session) -> Loaded
+    requires { ⌜ stateFault s ≡ Done ⌝ }
+    ensures { λ r. ⌜ r ≡ loadDone (opened s) ⌝ }
+{
+    let o = compatible::open_tables(s);
+    let mut t = s;
+    t.open_tables = o;
+    Loaded {
+        answer: Answer::Done,
+        session: t,
+    }
+}
+
+// Any bytes: a session with the network of the file, or no state.
+pub fn load(bytes: &[u8]) -> Loaded
+    ensures { λ r. ⌜ r ≡ loadOf (now (bytes .entry)) ⌝ }
+{
+    let l = netfile::read(bytes);
+    let a = l.answer;
+    if let Answer::Refused(r) = a {
+        return netfile::refused(r);
+    }
+    let s = l.session;
+    with_open_tables(s)
+}
+
+// The file's bytes from the start of the buffer, with the length; the rest of the buffer stays.
+pub fn write(s: Session, buf: &mut [u8]) -> WriteAnswer
+    ensures { λ r. ⌜ (r ≡ writeAnswer (writeOf s (now (buf .entry)) .answer) (length (bytesOf s))) × (now (buf .exit) ≡ writeOf s (now (buf .entry)) .buffer) ⌝ }
+{
+    let v = state::state_test(s);
+    if let Answer::Refused(_) = v {
+        return WriteAnswer::Refused(Refusal::InvalidState);
+    }
+    if buf.len() < netwrite::bytes_needed(s) {
+        return WriteAnswer::Refused(Refusal::BufferTooShort);
+    }
+    let n = netwrite::write_bytes(s, buf);
+    WriteAnswer::Written(n)
+}

@@ -1,0 +1,12 @@
+pub mod WordsBack
+pub mod Laid
+pub mod GatesBack
+pub mod OutputsBack
+pub mod RoundTrip
+pub mod Prefix
+pub mod Lengths
+pub mod Steps
+pub mod Marks
+pub mod Records
+pub mod Loops
+pub mod File

@@ -1,0 +1,36 @@
+-- 01, 'The file': a session that passes refusal 10's test, written and read again, is the same network; and how many bytes can matter.
+-- The same network: the records `Net` are equal, in counts, fan-ins, tables, outputs and excluded set. Assumes nothing.
+use mathlib.Core.Path.{_≡_}
+use mathlib.Core.List.{List}
+use Prim.Native.Nat.{ℕ, _≤_}
+use lib.ListN.{length, take}
+use Rattle.network.specs.declared.Session.{Session}
+use Rattle.network.specs.declared.Loaded.{Loaded}
+use Rattle.network.specs.declared.Answer.the-variants.{Done}
+use Rattle.network.specs.Flat.{loadedNet, currentNet}
+use Rattle.network.specs.Valid.{Shaped}
+use Rattle.network.specs.State.{stateFault}
+use Rattle.network.specs.Load.{loadDone, readOf, loadOf}
+use Rattle.network.specs.Write.{bytesOf}
+
+-- s written and read again is a session whose loaded and whose current network are the current one of s
+pub record Returns (read : List ℕ → Loaded) (s : Session) : Type 0 where
+  pub session : Session
+  pub reads : read (bytesOf s) ≡ loadDone session
+  pub loaded : loadedNet session ≡ currentNet s
+  pub current : currentNet session ≡ currentNet s
+
+abbrev pub WayBack : Type 0
+WayBack = (s : Session) → Shaped s → stateFault s ≡ Done → Returns readOf s × Returns loadOf s
+
+-- what is written takes at most 519 bytes
+abbrev pub WrittenLength : Type 0
+WrittenLength = (s : Session) → stateFault s ≡ Done → length (bytesOf s) ≤ 519
+
+-- no file that loads is longer
+abbrev pub LoadedLength : Type 0
+LoadedLength = (bytes : List ℕ) (s : Session) → loadOf bytes ≡ loadDone s → length bytes ≤ 519
+
+-- the first 520 bytes decide what load answers
+abbrev pub Prefix : Type 0
+Prefix = (bytes : List ℕ) → loadOf (take 520 bytes) ≡ loadOf bytes

@@ -1,0 +1,366 @@
+// A network file: from bytes to a network.
+ghost use mathlib.Core.Path.{_≡_};
+ghost use mathlib.Core.Bool.{true};
+ghost use Prim.Native.Nat.{_+_, _<_, _≤_};
+ghost use lib.ListN.{length, getD, take, drop};
+ghost use lib.Seq.{sets};
+ghost use Rattle.network.specs.Tests.{first};
+ghost use Rattle.network.specs.Tests as tests;
+ghost use Rattle.network.specs.Load.{littleEndian, isExcluded, headerRecord, gateTests, gateRecord, outputRecord, wordsFrom, setBytes, faninsIn, tableIn, withGate, withOutput, readOutputs, readGates, readBody, readOf, loadRefused};
+ghost use Rattle.network.specs.Load as file;
+ghost use Rattle.netfile.specs.Kind.{kindAt, notDue};
+use network::Answer;
+use network::Loaded;
+use network::Refusal;
+use network::Session;
+
+// What opens the bytes that are left: a record of a kind, or a refusal.
+pub enum Kind {
+    Header,
+    Excluded,
+    Gate,
+    Output,
+    Refused(Refusal),
+}
+
+// A byte as a word.
+fn wide(x: u8) -> u64
+    ensures { λ r. ⌜ (r ≡ x) × (r < 256) ⌝ }
+{
+    x as u64
+}
+
+// The number of the two-byte mark.
+fn mark(rest: &[u8]) -> u64
+    requires { ⌜ 2 ≤ length (now rest) ⌝ }
+    ensures { λ r. ⌜ r ≡ tests.mark (now (rest .entry)) ⌝ }
+{
+    wide(rest[0]) * 256 + wide(rest[1])
+}
+
+// The kind of the record that opens what is left: 1 where under two bytes are left, 2 for a mark that opens none.
+fn kind_at(rest: &[u8]) -> Kind
+    ensures { λ r. ⌜ r ≡ kindAt (now (rest .entry)) ⌝ }
+{
+    if rest.len() < 2 {
+        return Kind::Refused(Refusal::Truncated);
+    }
+    match mark(rest) {
+        0x4E49 => Kind::Header,
+        0x4E58 => Kind::Excluded,
+        0x4E47 => Kind::Gate,
+        0x4E4F => Kind::Output,
+        _ => Kind::Refused(Refusal::UnexpectedMark),
+    }
+}
+
+// Why a record of a kind that is not due is refused.
+fn not_due(k: Kind) -> Refusal
+    ensures { λ r. ⌜ r ≡ notDue k ⌝ }
+{
+    match k {
+        Kind::Refused(r) => r,
+        _ => Refusal::UnexpectedMark,
+    }
+}
+
+// Up to eight bytes, the lowest first, as a number.
+fn word(bs: &[u8]) -> u64
+    requires { ⌜ length (now bs) ≤ 8 ⌝ }
+    ensures { λ r. ⌜ r ≡ littleEndian (now (bs .entry)) ⌝ }
+{
+    let n = bs.len();
+    let mut w: u64 = 0;
+    let mut i: usize = 0;
+    while i < n {
+        let j = n - 1 - i;
+        w = wide(bs[j]) + 256 * w;
+        i += 1;
+    }
+    w
+}
+
+// The two bytes at e as a number.
+fn table(rest: &[u8], e: usize) -> u64
+    requires { ⌜ e + 2 ≤ length (now rest) ⌝ }
+    ensures { λ r. ⌜ r ≡ littleEndian (take 2 (drop e (now (rest .entry)))) ⌝ }
+{
+    let f = e + 2;
+    word(&rest[e..f])
+}
+
+// The eight bytes at `at` as a number; what is missing counts as 0.
+fn word_at(bs: &[u8], at: usize) -> u64
+    ensures { λ r. ⌜ r ≡ littleEndian (take 8 (drop at (now (bs .entry)))) ⌝ }
+{
+    if bs.len() <= at {
+        return 0;
+    }
+    if bs.len() - at < 8 {
+        return word(&bs[at..]);
+    }
+    let e = at + 8;
+    word(&bs[at..e])
+}
+
+// Sixteen words of eight bytes.
+fn words(bs: &[u8]) -> [u64; 16]
+    ensures { λ r. ⌜ r ≡ wordsFrom 16 (now (bs .entry)) ⌝ }
+{
+    let mut ws = [0u64; 16];
+    let mut i: usize = 0;
+    while i < 16 {
+        ws[i] = word_at(bs, 8 * i);
+        i += 1;
+    }
+    ws
+}
+
+// How many bytes hold 2^n bits.
+fn set_bytes(n: u8) -> usize
+    requires { ⌜ n ≤ 10 ⌝ }
+    ensures { λ r. ⌜ (r ≡ setBytes n) × (r ≤ 128) ⌝ }
+{
+    if n < 3 {
+        return 1;
+    }
+    (bits::power(n as u64) / 8) as usize
+}
+
+// The tests of the first record: mark, length, counts.
+fn header_record(rest: &[u8]) -> Answer
+    ensures { λ r. ⌜ r ≡ headerRecord (now (rest .entry)) ⌝ }
+{
+    let kind = kind_at(rest);
+    let Kind::Header = kind else {
+        return Answer::Refused(not_due(kind));
+    };
+    if rest.len() < 5 {
+        return Answer::Refused(Refusal::Truncated);
+    }
+    state::counts_test(rest[2], rest[3], rest[4])
+}
+
+// The tests of a gate record from the rest of its length on: length, fan-ins, table.
+fn gate_fields(rest: &[u8], limit: u8) -> Answer
+    requires { ⌜ (getD (now rest) 2 0 ≤ 4) × (3 ≤ length (now rest)) ⌝ }
+    ensures { λ r. ⌜ r ≡ first (drop 3 (gateTests limit (now (rest .entry)))) ⌝ }
+{
+    let k = rest[2];
+    let e = 3 + (k as usize);
+    if rest.len() < e + 2 {
+        return Answer::Refused(Refusal::Truncated);
+    }
+    let a = state::fanins_test(&rest[3..e], limit);
+    if let Answer::Refused(_) = a {
+        return a;
+    }
+    state::table_test(k, table(rest, e))
+}
+
+// The tests of a gate record: mark, length up to k, k, and the rest.
+fn gate_record(rest: &[u8], limit: u8) -> Answer
+    ensures { λ r. ⌜ r ≡ gateRecord limit (now (rest .entry)) ⌝ }
+{
+    let kind = kind_at(rest);
+    let Kind::Gate = kind else {
+        return Answer::Refused(not_due(kind));
+    };
+    if rest.len() < 3 {
+        return Answer::Refused(Refusal::Truncated);
+    }
+    let a = state::count_test(4, rest[2]);
+    if let Answer::Refused(_) = a {
+        return a;
+    }
+    gate_fields(rest, limit)
+}
+
+// The tests of an output record: mark, length, signal.
+fn output_record(rest: &[u8], signals: u8) -> Answer
+    ensures { λ r. ⌜ r ≡ outputRecord signals (now (rest .entry)) ⌝ }
+{
+    let kind = kind_at(rest);
+    let Kind::Output = kind else {
+        return Answer::Refused(not_due(kind));
+    };
+    if rest.len() < 3 {
+        return Answer::Refused(Refusal::Truncated);
+    }
+    state::output_test(signals, rest[2])
+}
+
+// The bytes fs from place at on.
+fn put_fanins(fanins: [u8; 240], at: usize, fs: &[u8]) -> [u8; 240]
+    requires { ⌜ at + length (now fs) ≤ 240 ⌝ }
+    ensures { λ r. ⌜ r ≡ sets fanins at (now (fs .entry)) ⌝ }
+{
+    let mut a = fanins;
+    let mut j: usize = 0;
+    while j < fs.len() {
+        a[at + j] = fs[j];
+        j += 1;
+    }
+    a
+}
+
+// The gate record that opens what is left, as gate g.
+fn put_gate(t: Session, g: usize, rest: &[u8]) -> Session
+    requires { ⌜ (g < 40) × (getD (now rest) 2 0 ≤ 4) × (getD (now rest) 2 0 + 5 ≤ length (now rest)) ⌝ }
+    ensures { λ r. ⌜ r ≡ withGate t g (getD (now (rest .entry)) 2 0) (faninsIn (now (rest .entry))) (tableIn (now (rest .entry))) ⌝ }
+{
+    let mut u = t;
+    let k = rest[2];
+    let e = 3 + (k as usize);
+    let a = u.fanins;
+    let b = put_fanins(a, 6 * g, &rest[3..e]);
+    let w = table(rest, e);
+    u.arity[g] = k;
+    u.fanins = b;
+    u.loaded[g] = w;
+    u.current[g] = w;
+    u
+}
+
+// The session that holds nothing but the counts.
+fn started(n: u8, m: u8, p: u8) -> Session
+    ensures { λ r. ⌜ r ≡ file.started n m p ⌝ }
+{
+    Session {
+        n: n,
+        m: m,
+        p: p,
+        excluded: [0u64; 16],
+        arity: [0u8; 40],
+        fanins: [0u8; 240],
+        loaded: [0u64; 40],
+        current: [0u64; 40],
+        open_tables: [0u64; 40],
+        outputs: [0u8; 8],
+    }
+}
+
+// A refusal hands out the empty session.
+pub fn refused(r: Refusal) -> Loaded
+    ensures { λ l. ⌜ l ≡ loadRefused r ⌝ }
+{
+    let t = started(0, 0, 0);
+    Loaded {
+        answer: Answer::Refused(r),
+        session: t,
+    }
+}
+
+// The output record at `at`, as output i.
+fn put_output(t: Session, i: usize, rest: &[u8], at: usize) -> Session
+    requires { ⌜ (i < 8) × (at + 3 ≤ length (now rest)) ⌝ }
+    ensures { λ r. ⌜ r ≡ withOutput t i (getD (now (rest .entry)) (at + 2) 0) ⌝ }
+{
+    let mut u = t;
+    let x = at + 2;
+    u.outputs[i] = rest[x];
+    u
+}
+
+// The outputs, and nothing after them.
+fn outputs(t: Session, rest: &[u8]) -> Loaded
+    requires { ⌜ (t .n ≤ 10) × (t .m ≤ 40) × (t .p ≤ 8) ⌝ }
+    ensures { λ r. ⌜ r ≡ readOutputs (t .p) 0 t (now (rest .entry)) ⌝ }
+{
+    let signals = t.n + t.m;
+    let p = t.p as usize;
+    let mut u = t;
+    let mut at: usize = 0;
+    let mut i: usize = 0;
+    while i < p {
+        let a = output_record(&rest[at..], signals);
+        if let Answer::Refused(r) = a {
+            return refused(r);
+        }
+        u = put_output(u, i, rest, at);
+        at += 3;
+        i += 1;
+    }
+    if at < rest.len() {
+        return refused(Refusal::TrailingBytes);
+    }
+    Loaded {
+        answer: Answer::Done,
+        session: u,
+    }
+}
+
+// Where the gate record at `at` ends.
+fn gate_end(rest: &[u8], at: usize) -> usize
+    requires { ⌜ at + 5 + getD (now rest) (at + 2) 0 ≤ length (now rest) ⌝ }
+    ensures { λ r. ⌜ r ≡ at + 5 + getD (now (rest .entry)) (at + 2) 0 ⌝ }
+{
+    let x = at + 2;
+    at + 5 + network::place(rest[x])
+}
+
+// The gates, then the outputs.
+fn gates(t: Session, rest: &[u8]) -> Loaded
+    requires { ⌜ (t .n ≤ 10) × (t .m ≤ 40) × (t .p ≤ 8) ⌝ }
+    ensures { λ r. ⌜ r ≡ readGates (t .m) 0 t (now (rest .entry)) ⌝ }
+{
+    let n = t.n;
+    let m = t.m;
+    let mut u = t;
+    let mut at: usize = 0;
+    let mut g: u8 = 0;
+    while g < m {
+        let a = gate_record(&rest[at..], n + g);
+        if let Answer::Refused(r) = a {
+            return refused(r);
+        }
+        u = put_gate(u, g as usize, &rest[at..]);
+        at = gate_end(rest, at);
+        g += 1;
+    }
+    outputs(u, &rest[at..])
+}
+
+// The excluded set, then the gates.
+fn excluded(t: Session, rest: &[u8]) -> Loaded
+    requires { ⌜ (t .n ≤ 10) × (t .m ≤ 40) × (t .p ≤ 8) × (isExcluded (now rest) ≡ true) ⌝ }
+    ensures { λ r. ⌜ r ≡ readBody t (now (rest .entry)) ⌝ }
+{
+    let n = t.n;
+    let e = 2 + set_bytes(n);
+    if rest.len() < e {
+        return refused(Refusal::Truncated);
+    }
+    let ws = words(&rest[2..e]);
+    let a = state::excluded_test(n, ws);
+    if let Answer::Refused(r) = a {
+        return refused(r);
+    }
+    let mut u = t;
+    u.excluded = ws;
+    gates(u, &rest[e..])
+}
+
+// What follows the first record.
+fn body(t: Session, rest: &[u8]) -> Loaded
+    requires { ⌜ (t .n ≤ 10) × (t .m ≤ 40) × (t .p ≤ 8) ⌝ }
+    ensures { λ r. ⌜ r ≡ readBody t (now (rest .entry)) ⌝ }
+{
+    let kind = kind_at(rest);
+    match kind {
+        Kind::Excluded => excluded(t, rest),
+        _ => gates(t, rest),
+    }
+}
+
+// Any bytes: the network that they hold, with no open tables yet, or the refusal.
+pub fn read(bytes: &[u8]) -> Loaded
+    ensures { λ r. ⌜ r ≡ readOf (now (bytes .entry)) ⌝ }
+{
+    let a = header_record(bytes);
+    if let Answer::Refused(r) = a {
+        return refused(r);
+    }
+    let t = started(bytes[2], bytes[3], bytes[4]);
+    body(t, &bytes[5..])
+}

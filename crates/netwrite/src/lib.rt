@@ -1,0 +1,201 @@
+// The bytes of a network, written into a lent buffer record after record.
+ghost use mathlib.Core.Path.{_≡_};
+ghost use Prim.Native.Nat.{_+_, _%_, _<_, _≤_};
+ghost use lib.ListN.{length, take};
+ghost use Rattle.network.specs.declared.Answer.the-variants.{Done};
+ghost use Rattle.network.specs.State.{arityOf, stateFault};
+ghost use Rattle.network.specs.Load.{setBytes};
+ghost use Rattle.network.specs.Write.{bytesIn, wordBytes, allZero, excludedBytes, gateBytes, gatesBytes, outputsBytes, bytesOf};
+ghost use Rattle.network.specs.Calls.{overwritten};
+ghost use Rattle.netwrite.specs.Laid.{Room, Laid};
+use network::Session;
+
+// Each function that lays bytes does so from place at on and returns the place behind them.
+
+fn copy(buf: &mut [u8], at: usize, bytes: &[u8]) -> usize
+    requires { ⌜ Room (now buf) at (now bytes) ⌝ }
+    ensures { λ r. ⌜ Laid (now (buf .entry)) at (now (bytes .entry)) (now (buf .exit)) r ⌝ }
+{
+    let mut a = at;
+    let mut i: usize = 0;
+    while i < bytes.len() {
+        buf[a] = bytes[i];
+        a += 1;
+        i += 1;
+    }
+    a
+}
+
+// The lowest byte.
+fn low(x: u64) -> u8
+    ensures { λ r. ⌜ r ≡ x % 256 ⌝ }
+{
+    (x % 256) as u8
+}
+
+// The c lowest bytes of x, the lowest first.
+fn put_bytes(buf: &mut [u8], at: usize, x: u64, c: usize) -> usize
+    requires { ⌜ at + c ≤ length (now buf) ⌝ }
+    ensures { λ r. ⌜ Laid (now (buf .entry)) at (bytesIn c x) (now (buf .exit)) r ⌝ }
+{
+    let mut a = at;
+    let mut y = x;
+    let mut left = c;
+    while 0 < left {
+        buf[a] = low(y);
+        a += 1;
+        y = y / 256;
+        left -= 1;
+    }
+    a
+}
+
+// The first z bytes of the words.
+fn put_words(buf: &mut [u8], at: usize, words: [u64; 16], z: usize) -> usize
+    requires { ⌜ (z ≤ 128) × (at + z ≤ length (now buf)) ⌝ }
+    ensures { λ r. ⌜ Laid (now (buf .entry)) at (take z (wordBytes words)) (now (buf .exit)) r ⌝ }
+{
+    let mut a = at;
+    let mut left = z;
+    let mut w: usize = 0;
+    while 8 <= left {
+        a = put_bytes(buf, a, words[w], 8);
+        left -= 8;
+        w += 1;
+    }
+    if 0 < left {
+        return put_bytes(buf, a, words[w], left);
+    }
+    a
+}
+
+// Whether no pattern is excluded.
+fn none(words: [u64; 16]) -> bool
+    ensures { λ r. ⌜ r ≡ allZero words ⌝ }
+{
+    let mut w: usize = 0;
+    while w < 16 {
+        if words[w] != 0 {
+            return false;
+        }
+        w += 1;
+    }
+    true
+}
+
+// How many bytes hold 2^n bits.
+fn set_bytes(n: u8) -> usize
+    requires { ⌜ n ≤ 10 ⌝ }
+    ensures { λ r. ⌜ (r ≡ setBytes n) × (r ≤ 128) ⌝ }
+{
+    if n < 3 {
+        return 1;
+    }
+    (bits::power(n as u64) / 8) as usize
+}
+
+fn put_excluded(buf: &mut [u8], at: usize, s: Session) -> usize
+    requires { ⌜ (s .n ≤ 10) × Room (now buf) at (excludedBytes s) ⌝ }
+    ensures { λ r. ⌜ Laid (now (buf .entry)) at (excludedBytes s) (now (buf .exit)) r ⌝ }
+{
+    let words = s.excluded;
+    if none(words) {
+        return at;
+    }
+    let mark = [0x4E, 0x58];
+    let a = copy(buf, at, &mark);
+    put_words(buf, a, words, set_bytes(s.n))
+}
+
+fn put_gate(buf: &mut [u8], at: usize, s: Session, g: usize) -> usize
+    requires { ⌜ (g < 40) × (arityOf s g ≤ 4) × Room (now buf) at (gateBytes s g) ⌝ }
+    ensures { λ r. ⌜ Laid (now (buf .entry)) at (gateBytes s g) (now (buf .exit)) r ⌝ }
+{
+    let k = s.arity[g];
+    let table = s.current[g];
+    let fanins = s.fanins;
+    let b = 6 * g;
+    let e = b + (k as usize);
+    let opening = [0x4E, 0x47, k];
+    let a = copy(buf, at, &opening);
+    let d = copy(buf, a, &fanins[b..e]);
+    put_bytes(buf, d, table, 2)
+}
+
+fn put_gates(buf: &mut [u8], at: usize, s: Session) -> usize
+    requires { ⌜ (stateFault s ≡ Done) × Room (now buf) at (gatesBytes s (s .m) 0) ⌝ }
+    ensures { λ r. ⌜ Laid (now (buf .entry)) at (gatesBytes s (s .m) 0) (now (buf .exit)) r ⌝ }
+{
+    let m = s.m as usize;
+    let mut a = at;
+    let mut g: usize = 0;
+    while g < m {
+        a = put_gate(buf, a, s, g);
+        g += 1;
+    }
+    a
+}
+
+fn put_outputs(buf: &mut [u8], at: usize, s: Session) -> usize
+    requires { ⌜ (s .p ≤ 8) × Room (now buf) at (outputsBytes s (s .p) 0) ⌝ }
+    ensures { λ r. ⌜ Laid (now (buf .entry)) at (outputsBytes s (s .p) 0) (now (buf .exit)) r ⌝ }
+{
+    let p = s.p as usize;
+    let mut a = at;
+    let mut i: usize = 0;
+    while i < p {
+        let x = s.outputs[i];
+        let output = [0x4E, 0x4F, x];
+        a = copy(buf, a, &output);
+        i += 1;
+    }
+    a
+}
+
+// How long the excluded record is.
+fn excluded_size(s: Session) -> usize
+    requires { ⌜ s .n ≤ 10 ⌝ }
+    ensures { λ r. ⌜ (r ≡ length (excludedBytes s)) × (r ≤ 130) ⌝ }
+{
+    let words = s.excluded;
+    if none(words) {
+        return 0;
+    }
+    2 + set_bytes(s.n)
+}
+
+// How long the gates' records are.
+fn gates_size(s: Session) -> usize
+    requires { ⌜ stateFault s ≡ Done ⌝ }
+    ensures { λ r. ⌜ (r ≡ length (gatesBytes s (s .m) 0)) × (r ≤ 360) ⌝ }
+{
+    let m = s.m as usize;
+    let mut size: usize = 0;
+    let mut g: usize = 0;
+    while g < m {
+        let k = s.arity[g];
+        size += (k as usize) + 5;
+        g += 1;
+    }
+    size
+}
+
+// How long the file of a valid session is.
+pub fn bytes_needed(s: Session) -> usize
+    requires { ⌜ stateFault s ≡ Done ⌝ }
+    ensures { λ r. ⌜ (r ≡ length (bytesOf s)) × (r ≤ 519) ⌝ }
+{
+    5 + excluded_size(s) + gates_size(s) + 3 * (s.p as usize)
+}
+
+// The file of a valid session, at the start of a buffer that has room for it; its length.
+pub fn write_bytes(s: Session, buf: &mut [u8]) -> usize
+    requires { ⌜ (stateFault s ≡ Done) × (length (bytesOf s) ≤ length (now buf)) ⌝ }
+    ensures { λ r. ⌜ (r ≡ length (bytesOf s)) × (now (buf .exit) ≡ overwritten (bytesOf s) (now (buf .entry))) ⌝ }
+{
+    let header = [0x4E, 0x49, s.n, s.m, s.p];
+    let a = copy(buf, 0, &header);
+    let b = put_excluded(buf, a, s);
+    let c = put_gates(buf, b, s);
+    put_outputs(buf, c, s)
+}
