@@ -9,7 +9,7 @@ use Rattle.bits.specs.Range.{_⇒_, every, any, count, places}
 use Rattle.bits.specs.Bit.{bit, tableOf, entryAt}
 use Rattle.network.specs.Compatible.{agree}
 
--- what the first p outputs leave of the set of signal s, where they keep the patterns of e
+-- what the first p outputs leave of the set of signal s: e tells whether the pattern is excluded
 unfoldable pub outputsLeave : (outs : List ℕ) (p : ℕ) (e : Bool) (s : ℕ) → Bool
 outputsLeave outs p e s = every p (λ i. eqb (getD outs i 0) s ⇒ e)
 

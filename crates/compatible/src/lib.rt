@@ -314,7 +314,7 @@ fn sets_of(
     sets
 }
 
-// The ones of w words from place at on.
+// The ones of as many words as most says, from place at on.
 fn ones_in(sets: &[u64; 640], at: usize, most: usize) -> u64
     requires { ⌜ (at + 16 ≤ 640) × (most ≤ 16) ⌝ }
     ensures { λ r. ⌜ r ≡ onesIn (now (sets .entry)) at most ⌝ }
@@ -329,7 +329,7 @@ fn ones_in(sets: &[u64; 640], at: usize, most: usize) -> u64
     sum
 }
 
-// The ones of each gate's sixteen words, of which the first are counted.
+// The ones of each gate's first words, as many as most says.
 fn counts_of(m: usize, most: usize, sets: &[u64; 640]) -> [u64; 40]
     requires { ⌜ (m ≤ 40) × (most ≤ 16) ⌝ }
     ensures { λ r. ⌜ r ≡ perGate m (λ g. onesIn (now (sets .entry)) (16 * g) most) ⌝ }
@@ -354,10 +354,10 @@ pub fn compatible_sets(s: Session) -> [u64; 640]
     let p = network::place(s.p);
     let arity = s.arity;
     let fanins = s.fanins;
-    let tables = s.loaded;
+    let loaded = s.loaded;
     let excluded = s.excluded;
     let outs = s.outputs;
-    sets_of(n, m, &arity, &fanins, &tables, &excluded, p, &outs)
+    sets_of(n, m, &arity, &fanins, &loaded, &excluded, p, &outs)
 }
 
 // The open tables of the loaded network.

@@ -13,15 +13,16 @@ use Rattle.bits.specs.Bit.{bit, differs}
 use Rattle.network.specs.declared.Session.{Session}
 use Rattle.network.specs.declared.Refusal.{Refusal}
 use Rattle.network.specs.declared.Refusal.the-variants.{BitPastEnd, BufferTooShort, InvalidState, NotAGate, TableTooWide}
+use Rattle.network.specs.declared.TablesAnswer.the-variants as tables
 use Rattle.network.specs.declared.Answer.{Answer}
 use Rattle.network.specs.declared.Answer.the-variants.{Done, Refused}
 use Rattle.network.specs.Net.{Net, Gate, isGate, gate, arity, entries, Replacement, replaced}
+use Rattle.network.specs.DontCares.{sdc, cdc, full}
 use Rattle.network.specs.Flat.{gateAt, gatesOf, netOf, loadedNet, currentNet}
 use Rattle.network.specs.Tests.{refuseIf, orElse, first, widthTest}
 use Rattle.network.specs.State.{arityOf, stateFault, asInvalid, stateTest}
 use Rattle.network.specs.Load.{loadDone, loadRefused, opened, readOf, loadOf}
-use Rattle.network.specs.Write.{bytesOf}
-use Rattle.network.specs.Calls.{gateTest, fits, tableTest, alters, entryFound, closedTest, stored, heldClosed, exchangeAnswer, exchangeOf, overwritten, writeOf, harmTest, countsFor, countsOf}
+use Rattle.network.specs.Calls.{gateTest, fits, tableTest, alters, entryFound, closedTest, stored, heldClosed, exchangeAnswer, exchangeOf, Filled, roomTest, overwritten, filled, tablesOf, harmTest, countsFor, countsOf}
 use Rattle.network.proofs.TestLaws.{clear-e, kept, count-e, refused-done}
 use Rattle.network.proofs.Valid.{valid-e, state-e}
 use Rattle.network.proofs.Reached.{opened-fault, loaded-fresh}
@@ -120,7 +121,7 @@ module _ (s : Session) (r : Replacement) (low : s .n ≤ r .signal) (high : r .s
   closed-is =
       ap₂ (λ (k x : ℕ). entryFound (smallest (2 ^ k) (λ t. not (bit (getD (s .open_tables) g 0) t) && differs (bit x t) (bit (r .table) t)))) (sym loaded-arity) (sym loaded-table)
 
--- ## Exchange and write
+-- ## Exchange, and calls that fill a buffer
 
 pub exchange-refused : (s : Session) (r : Replacement) {a : Answer} {f : Refusal} → a ≡ exchangeAnswer s r → a ≡ Refused f → record { answer = a; session = s } ≡ exchangeOf s r
 unfolding exchangeOf
@@ -139,18 +140,35 @@ pub state-refused : (s : Session) {a : Answer} {r : Refusal} → a ≡ stateTest
 unfolding stateTest
 state-refused s e k = invalid (stateFault s) (sym e ∙ k)
 
-module _ (s : Session) (buffer : List ℕ) where
-  pub write-invalid : Refused InvalidState ≡ stateTest s → writeOf s buffer ≡ record { answer = Refused InvalidState; buffer = buffer }
-  unfolding writeOf
-  write-invalid e = rw (← e)
+-- a call that fills a lent buffer with `new`: 10, then 9
+abbrev pub filling : Session → List ℕ → List ℕ → Filled
+filling s new buffer = filled (first (stateTest s ∷ roomTest (length new) buffer ∷ [])) new buffer
 
-  pub write-short : stateTest s ≡ Done → length buffer < length (bytesOf s) → writeOf s buffer ≡ record { answer = Refused BufferTooShort; buffer = buffer }
-  unfolding writeOf
-  write-short e h = rw (e, lt-ltb (length buffer) (length (bytesOf s)) h)
+module _ (s : Session) (new buffer : List ℕ) where
+  pub filling-invalid : {r : Refusal} → stateTest s ≡ Refused r → filling s new buffer ≡ record { answer = Refused r; buffer = buffer }
+  filling-invalid e = rw e
 
-  pub write-done : stateTest s ≡ Done → length (bytesOf s) ≤ length buffer → writeOf s buffer ≡ record { answer = Done; buffer = overwritten (bytesOf s) buffer }
-  unfolding writeOf
-  write-done e h = rw (e, le-ltb (length buffer) (length (bytesOf s)) h)
+  pub filling-short : stateTest s ≡ Done → length buffer < length new → filling s new buffer ≡ record { answer = Refused BufferTooShort; buffer = buffer }
+  filling-short e h = rw (e, lt-ltb (length buffer) (length new) h)
+
+  pub filling-done : stateTest s ≡ Done → length new ≤ length buffer → filling s new buffer ≡ record { answer = Done; buffer = overwritten new buffer }
+  filling-done e h = rw (e, le-ltb (length buffer) (length new) h)
+
+-- ## Tables
+
+module _ (s : Session) (k : ℕ) where
+  pub tables-refused : {r : Refusal} → first (stateTest s ∷ gateTest (loadedNet s) k ∷ []) ≡ Refused r → tables.Refused r ≡ tablesOf s k
+  unfolding tablesOf
+  tables-refused e = rw e
+
+  -- the tables of the gate's place
+  pub tables-done : first (stateTest s ∷ gateTest (loadedNet s) k ∷ []) ≡ Done → s .n ≤ k → {d c f : ℕ}
+      → d ≡ sdc (currentNet s) (s .n + (k - s .n)) → c ≡ cdc (currentNet s) (s .n + (k - s .n)) → f ≡ full (currentNet s) (s .n + (k - s .n))
+      → tables.Given (record { sdc = d; cdc = c; full = f; open_table = getD (s .open_tables) (k - s .n) 0 }) ≡ tablesOf s k
+  unfolding tablesOf
+  tables-done e h p q r =
+      let back : s .n + (k - s .n) ≡ k = omega arith in
+      rw (e, p, q, r, back)
 
 -- ## Verdict, counts and load
 

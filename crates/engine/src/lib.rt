@@ -13,13 +13,15 @@ ghost use Rattle.network.specs.Tests.{first};
 ghost use Rattle.network.specs.State.{stateFault, stateTest};
 ghost use Rattle.network.specs.Load.{loadOf, loadDone, opened};
 ghost use Rattle.network.specs.Write.{bytesOf};
-ghost use Rattle.network.specs.Calls.{gateTest, tableTest, entryFound, exchangeAnswer, exchangeOf, verdictOf, tablesOf, writeAnswer, writeOf, countsOf};
+ghost use Rattle.network.specs.Calls.{gateTest, tableTest, entryFound, exchangeAnswer, exchangeOf, verdictOf, tablesOf, patternSetsOf, writeAnswer, writeOf, countsOf};
 use network::Answer;
 use network::Counts;
 use network::Exchanged;
 use network::Loaded;
 use network::Refusal;
 use network::Session;
+use network::Tables;
+use network::TablesAnswer;
 use network::WriteAnswer;
 
 // The lowest entry of k fan-ins' tables that differs and is not open.
@@ -123,6 +125,41 @@ pub fn verdict(s: Session, gate: usize, table: u64) -> Answer
     verdict::harm(s, g, table)
 }
 
+// The SDC, CDC, full and open table of a gate.
+pub fn tables(s: Session, gate: usize) -> TablesAnswer
+    ensures { λ r. ⌜ r ≡ tablesOf s gate ⌝ }
+{
+    let a = gate_test(s, gate);
+    if let Answer::Refused(r) = a {
+        return TablesAnswer::Refused(r);
+    }
+    let n = s.n as usize;
+    let g = gate - n;
+    let t = dontcares::gate_tables(s, g);
+    let d = dontcares::sdc(s, g);
+    TablesAnswer::Given(Tables {
+        sdc: d,
+        cdc: t.cdc,
+        full: t.full,
+        open_table: s.open_tables[g],
+    })
+}
+
+// The ODC and the compatible set of each gate, gate after gate from the start of the buffer; the words after the last stay.
+pub fn pattern_sets(s: Session, buf: &mut [u64]) -> Answer
+    ensures { λ r. ⌜ (r ≡ patternSetsOf s (now (buf .entry)) .answer) × (now (buf .exit) ≡ patternSetsOf s (now (buf .entry)) .buffer) ⌝ }
+{
+    let v = state::state_test(s);
+    if let Answer::Refused(_) = v {
+        return v;
+    }
+    if buf.len() < patternsets::words_needed(s) {
+        return Answer::Refused(Refusal::BufferTooShort);
+    }
+    patternsets::fill(s, buf);
+    Answer::Done
+}
+
 // The number of patterns in the compatible set of each gate.
 pub fn counts(s: Session) -> Counts
     ensures { λ r. ⌜ r ≡ countsOf s ⌝ }
@@ -147,11 +184,11 @@ fn with_open_tables(s: Session) -> Loaded
     ensures { λ r. ⌜ r ≡ loadDone (opened s) ⌝ }
 {
     let o = compatible::open_tables(s);
-    let mut t = s;
-    t.open_tables = o;
+    let mut u = s;
+    u.open_tables = o;
     Loaded {
         answer: Answer::Done,
-        session: t,
+        session: u,
     }
 }
 

@@ -1,6 +1,6 @@
 -- One fan-in of `agree`, over plain variables. Assumes nothing.
 use mathlib.Core.Path.{_≡_, refl, sym, ap, ap₂, _∙_, subst}
-use mathlib.Core.Bool.{Bool, true, false, not, _&&_, _||_, Bool·beq, false≢true}
+use mathlib.Core.Bool.{Bool, true, false, not, _&&_, _||_, Bool·beq}
 use mathlib.Core.List.{List}
 use Prim.Native.Nat.{ℕ, zero, suc, _+_, _*_, _^_, _<_, _≤_}
 use native.Mathlib.Numerals.{add-one}
@@ -31,35 +31,3 @@ module _ (ins fr : List ℕ) (t b : ℕ) where
   agree-done k =
       every-ext k fanin (λ r. bit (entryAt k fr b) r || Bool·beq (bit (entryAt k ins b) r) (bit t r))
       (λ r h. ap₂ (λ (p q : Bool). p || Bool·beq q (bit t r)) (sym (bit-table k (λ r. bit (getD fr r 0) b) r h)) (sym (bit-table k (λ r. bit (getD ins r 0) b) r h)))
-
--- where nothing is free, only the entry itself agrees
-pub agree-eq : (k free e t : ℕ) → ((r : ℕ) → r < k → bit free r ≡ false) → e < 2 ^ k → t < 2 ^ k → agree k free e t ≡ eqb e t
-unfolding agree
-agree-eq k free e t none he ht = iff (agree k free e t) (eqb e t) there back
-  where
-    here : ℕ → Bool
-    here r = bit free r || Bool·beq (bit e r) (bit t r)
-
-    equal : (a b : Bool) → Bool·beq a b ≡ true → a ≡ b
-    equal true true q = refl
-    equal true false q = absurd (false≢true q)
-    equal false true q = absurd (false≢true q)
-    equal false false q = refl
-
-    there : every k here ≡ true → eqb e t ≡ true
-    there q = eq-eqb e t (bit-ext k e t he ht (λ r h. equal (bit e r) (bit t r) (ap (λ (x : Bool). x || Bool·beq (bit e r) (bit t r)) (sym (none r h)) ∙ every-e k here q r h)))
-
-    same : (a : Bool) → Bool·beq a a ≡ true
-    same true = refl
-    same false = refl
-
-    back : eqb e t ≡ true → every k here ≡ true
-    back q = rw (eqb-true e t q) (every-i k (λ r. bit free r || Bool·beq (bit t r) (bit t r)) (λ r h. or-r (bit free r) (Bool·beq (bit t r) (bit t r)) (same (bit t r))))
-
-pub meets-is : (ins free : List ℕ) (k keep : ℕ) → ((r : ℕ) → r < k → getD free r 0 ≡ 0)
-    → tableOf (2 ^ k) (λ t. any 64 (λ b. bit keep b && agree k (entryAt k free b) (entryAt k ins b) t)) ≡ tableOf (2 ^ k) (λ t. any 64 (λ b. bit keep b && eqb (entryAt k ins b) t))
-meets-is ins free k keep none =
-    table-ext (2 ^ k) (λ t. any 64 (λ b. bit keep b && agree k (entryAt k free b) (entryAt k ins b) t)) (λ t. any 64 (λ b. bit keep b && eqb (entryAt k ins b) t))
-    (λ t ht. any-ext 64 (λ b. bit keep b && agree k (entryAt k free b) (entryAt k ins b) t) (λ b. bit keep b && eqb (entryAt k ins b) t)
-    (λ b hb. ap (λ (x : Bool). bit keep b && x)
-    (agree-eq k (entryAt k free b) (entryAt k ins b) t (λ r h. bit-table k (λ r. bit (getD free r 0) b) r h ∙ ap (λ (w : ℕ). bit w b) (none r h) ∙ bit-zero b) (table-lt k (λ r. bit (getD ins r 0) b)) ht)))

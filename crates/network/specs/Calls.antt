@@ -22,7 +22,7 @@ use Rattle.network.specs.declared.Answer.{Answer}
 use Rattle.network.specs.declared.Answer.the-variants.{Done, Refused}
 use Rattle.network.specs.Net.{Net, isGate, gate, entries, patternOrder, Replacement, replaced}
 use Rattle.network.specs.DontCares.{sdc, cdc, odc, full, harms}
-use Rattle.network.specs.Compatible.{compatible, compatibleCount, closed}
+use Rattle.network.specs.Compatible.{compatible, compatibleCount}
 use Rattle.network.specs.Flat.{loadedNet, currentNet, wordsOf}
 use Rattle.network.specs.Tests.{refuseIf, orElse, first}
 use Rattle.network.specs.State.{stateTest}

@@ -222,6 +222,8 @@ abbrev pub damaged : List (List ℕ × List ℕ)
 damaged =
     ([], 1 ∷ [])
     ∷ (take 1 twinBytes, 1 ∷ [])
+    -- the length is tested before a field
+    ∷ (take 2 twinBytes, 1 ∷ [])
     ∷ (take 26 twinBytes, 1 ∷ [])
     ∷ (twinBytes ++ 0 ∷ [], 8 ∷ [])
     ∷ (but 1 0x47, 2 ∷ [])

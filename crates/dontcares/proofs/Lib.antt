@@ -1,0 +1,5 @@
+pub mod OdcLaws
+pub mod Words
+pub mod TableLaws
+pub mod SdcLaws
+pub mod Ready

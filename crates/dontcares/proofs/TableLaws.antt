@@ -1,0 +1,170 @@
+-- CDC, full table and SDC of a gate by words. Assumes nothing.
+use mathlib.Core.Path.{_≡_, refl, sym, ap, ap₂, _∙_, subst}
+use mathlib.Core.Bool.{Bool, true, false, not, _&&_, _||_}
+use mathlib.Core.List.{List}
+use Prim.Native.Nat.{ℕ, zero, suc, _+_, _-_, _*_, _/_, _%_, _^_, _<_, _≤_}
+use native.Mathlib.Decide.{decLt}
+use native.Mathlib.Numerals.{add-one}
+use native.Mathlib.Omega.{arith}
+use lib.Bits.{bitOr}
+use lib.Dec.{eqb, ltb}
+use lib.ListN.{length, getD, set, take, replicate}
+use lib.Seq.{getD-take, getD-set-other}
+use Rattle.bits.specs.Range.{_⇒_, places, every, any}
+use Rattle.bits.specs.Bit.{bit, differs, tableOf, column, entryAt}
+use Rattle.bits.proofs.BitLaws.{bit-ones}
+use Rattle.bits.proofs.Ranges.{and-assoc, and-true, any-e, any-i, any-ext, every-ext, places-at, bit-table, table-lt, table-ext, column-at, filled}
+use Rattle.bits.proofs.Cuts.{every-not, table-or, table-none}
+use Rattle.network.specs.Net.{Gate, Net, arity, gate, noGate, entry, values, entryOf, occurs, excluded}
+use Rattle.network.specs.DontCares.{odc, cdc, full}
+use Rattle.network.specs.Flat.{gateAt, gatesOf, netOf, wordOf}
+use Rattle.network.specs.Valid.{NetOk}
+use Rattle.network.proofs.Laws.{arity-at, entry-words, entry-ext}
+use Rattle.entries.specs.By.{tableBy}
+use Rattle.entries.proofs.By.{by-rest}
+use Rattle.simulate.specs.Simulated.{wordsAt, Rows}
+use Rattle.dontcares.specs.Framed.{Framed, OdcAt, Tabled}
+use Rattle.dontcares.proofs.Words.{set-bit}
+
+-- ## Entries, word after word
+
+module _ (q : ℕ → ℕ → Bool) (K : ℕ) where
+  -- the entries at which the test holds of some of the first w words
+  abbrev pub upTo : ℕ → ℕ
+  upTo w = tableOf K (λ t. any w (q t))
+
+  pub none-yet : 0 ≡ upTo 0
+  none-yet = table-none K
+
+  pub word-more : (w acc r : ℕ) → acc ≡ upTo w → r ≡ tableOf K (λ t. q t w) → bitOr acc r ≡ upTo (w + 1)
+  word-more w acc r ea er =
+      ap₂ bitOr ea er ∙ table-or K (λ t. any w (q t)) (λ t. q t w) ∙ ap upTo (sym (add-one w))
+
+  -- once all entries are there, the words left add none
+  pub all-there : (w count acc : ℕ) → w ≤ count → acc ≡ upTo w → acc ≡ 2 ^ K - 1 → acc ≡ upTo count
+  all-there w count acc h e f =
+      e ∙ table-ext K (λ t. any w (q t)) (λ t. any count (q t)) (λ t l. let s = set t l in s ∙ sym (still t s))
+    where
+      set : (t : ℕ) → t < K → any w (q t) ≡ true
+      set t l = sym (bit-table K (λ t. any w (q t)) t l) ∙ ap (λ (x : ℕ). bit x t) (sym e ∙ f) ∙ bit-ones K t l
+
+      still : (t : ℕ) → any w (q t) ≡ true → any count (q t) ≡ true
+      still t s = let r = any-e w (q t) s in any-i count (q t) (r .0) (omega (arith, r .1)) (r .2)
+
+-- a table of K entries fits in as many bits
+pub below : (K c x : ℕ) (p : ℕ → Bool) → c ≡ K → x ≡ tableOf K p → x < 2 ^ c
+below K c x p ec e = rw (ec, e) (table-lt K p)
+
+-- the test that some place of keep in word w delivers entry t of gate g
+abbrev pub delivers : (ks fs ts rows keep : List ℕ) (g t w : ℕ) → Bool
+delivers ks fs ts rows keep g t w = any 64 (λ b. bit (getD keep w 0) b && eqb (entry (column (wordsAt rows w) b) (gateAt ks fs ts g)) t)
+
+pub word-delivers : (ks fs ts rows keep ins : List ℕ) (g k w : ℕ) → k ≡ getD ks g 0
+    → ((r : ℕ) → r < getD ks g 0 → getD ins r 0 ≡ getD (wordsAt rows w) (getD fs (6 * g + r) 0) 0)
+    → tableOf (2 ^ k) (λ t. any 64 (λ b. bit (getD keep w 0) b && eqb (entryAt k ins b) t)) ≡ tableOf (2 ^ getD ks g 0) (λ t. delivers ks fs ts rows keep g t w)
+word-delivers ks fs ts rows keep ins g k w e has =
+    ap (λ (i : ℕ). tableOf (2 ^ i) (λ t. any 64 (λ b. bit (getD keep w 0) b && eqb (entryAt i ins b) t))) e
+    ∙ table-ext (2 ^ getD ks g 0) (λ t. any 64 (λ b. bit (getD keep w 0) b && eqb (entryAt (getD ks g 0) ins b) t)) (λ t. delivers ks fs ts rows keep g t w)
+    (λ t ht. any-ext 64 (λ b. bit (getD keep w 0) b && eqb (entryAt (getD ks g 0) ins b) t) (λ b. bit (getD keep w 0) b && eqb (entry (column (wordsAt rows w) b) (gateAt ks fs ts g)) t)
+    (λ b hb. ap (λ (i : ℕ). bit (getD keep w 0) b && eqb i t) (entry-words ks fs ts ins (wordsAt rows w) g (getD ks g 0) b refl has)))
+
+-- ## The gate of a flat network
+
+module _ (ks fs ts ex outs : List ℕ) (n m p g : ℕ) (hg : g < m) where
+  abbrev N : Net
+  N = netOf ks fs ts n m ex outs p
+
+  pub gate-is : gate N (n + g) ≡ gateAt ks fs ts g
+  unfolding netOf gatesOf
+  gate-is =
+      let e : n + g - n ≡ g = omega arith in
+      ap (λ (i : ℕ). getD (places m (gateAt ks fs ts)) i noGate) e ∙ places-at noGate m (gateAt ks fs ts) g hg
+
+  pub entries-is : 2 ^ arity (gate N (n + g)) ≡ 2 ^ getD ks g 0
+  entries-is = ap (λ (G : Gate). 2 ^ arity G) gate-is ∙ ap (λ (k : ℕ). 2 ^ k) (arity-at ks fs ts g)
+
+  module _ (rows : List ℕ) (count live : ℕ) (ok : NetOk ks fs n m) (sim : Rows ks fs ts rows n m count) (framed : Framed n count live) where
+    entry-now : (w b : ℕ) → w < count → b < 64 → entry (column (wordsAt rows w) b) (gateAt ks fs ts g) ≡ entryOf N (n + g) (w * 64 + b)
+    unfolding values netOf
+    entry-now w b hw hb =
+        entry-ext ks fs ts (column (wordsAt rows w) b) (values N (w * 64 + b)) g
+        (λ r l. sym (getD-take (n + m) (column (wordsAt rows w) b) (getD fs (6 * g + r) 0) false (omega (arith, ok .gate g hg .early r l)))
+        ∙ ap (λ (q : List Bool). getD q (getD fs (6 * g + r) 0) false) (sim w hw .each b hb))
+        ∙ ap (entry (values N (w * 64 + b))) (sym gate-is)
+
+    -- those that no pattern delivers at which the test holds
+    left-out : (keep : List ℕ) (test : ℕ → Bool) (x : ℕ)
+        → ((w b : ℕ) → w < count → b < 64 → bit (getD keep w 0) b ≡ (bit live b && test (w * 64 + b)))
+        → x ≡ tableOf (2 ^ getD ks g 0) (λ t. any count (delivers ks fs ts rows keep g t))
+        → 2 ^ 2 ^ getD ks g 0 - 1 - x ≡ tableOf (2 ^ getD ks g 0) (λ t. not (any (2 ^ n) (λ y. test y && eqb (entryOf N (n + g) y) t)))
+    left-out keep test x h e =
+        by-rest (2 ^ getD ks g 0) live (λ t y. test y && eqb (entryOf N (n + g) y) t) n count (framed .size) x (framed .cut) (framed .lives)
+        (e ∙ table-ext (2 ^ getD ks g 0) (λ t. any count (delivers ks fs ts rows keep g t)) (λ t. any count (λ w. any 64 (λ b. here t w b)))
+        (λ t ht. any-ext count (delivers ks fs ts rows keep g t) (λ w. any 64 (λ b. here t w b))
+        (λ w hw. any-ext 64 (λ b. bit (getD keep w 0) b && eqb (entry (column (wordsAt rows w) b) (gateAt ks fs ts g)) t) (λ b. here t w b)
+        (λ b hb. ap₂ (λ (c : Bool) (i : ℕ). c && eqb i t) (h w b hw hb) (entry-now w b hw hb) ∙ and-assoc (bit live b) (test (w * 64 + b)) (eqb (entryOf N (n + g) (w * 64 + b)) t)))))
+      where
+        here : ℕ → ℕ → ℕ → Bool
+        here t w b = bit live b && (test (w * 64 + b) && eqb (entryOf N (n + g) (w * 64 + b)) t)
+
+    pub cdc-is : (keep : List ℕ) (x : ℕ) → ((w : ℕ) → w < count → getD keep w 0 ≡ live) → x ≡ tableOf (2 ^ getD ks g 0) (λ t. any count (delivers ks fs ts rows keep g t))
+        → 2 ^ 2 ^ getD ks g 0 - 1 - x ≡ cdc N (n + g)
+    unfolding cdc occurs netOf
+    cdc-is keep x all e =
+        left-out keep (λ y. true) x (λ w b hw hb. ap (λ (v : ℕ). bit v b) (all w hw) ∙ sym (and-true (bit live b))) e
+        ∙ ap (λ (k : ℕ). tableOf k (λ t. not (any (2 ^ n) (λ y. true && eqb (entryOf N (n + g) y) t)))) (sym entries-is)
+
+    excluded-at : (w b : ℕ) → b < 64 → excluded N (w * 64 + b) ≡ bit (getD ex w 0) b
+    unfolding excluded netOf
+    excluded-at w b hb = ap₂ (λ (i j : ℕ). bit (getD ex i 0) j) (omega arith) (omega arith)
+
+    imp-not : (a c : Bool) → not (not c && a) ≡ (a ⇒ c)
+    imp-not true true = refl
+    imp-not true false = refl
+    imp-not false true = refl
+    imp-not false false = refl
+
+    pub full-is : (keep l : List ℕ) (x : ℕ) → OdcAt N l n g count
+        → ((w b : ℕ) → w < count → b < 64 → bit (getD keep w 0) b ≡ (bit live b && not (bit (getD ex w 0) b || bit (getD l (16 * g + w) 0) b)))
+        → x ≡ tableOf (2 ^ getD ks g 0) (λ t. any count (delivers ks fs ts rows keep g t))
+        → 2 ^ 2 ^ getD ks g 0 - 1 - x ≡ full N (n + g)
+    unfolding full netOf OdcAt
+    full-is keep l x at h e =
+        left-out keep free x (λ w b hw hb. h w b hw hb ∙ ap₂ (λ (c d : Bool). bit live b && not (c || d)) (sym (excluded-at w b hb)) (set-bit framed (odc N (n + g)) w (getD l (16 * g + w) 0) b hw hb (at w hw))
+        ∙ inside (bit live b) (excluded N (w * 64 + b)) (odc N (n + g) (w * 64 + b))) e
+        ∙ table-ext (2 ^ getD ks g 0) (λ t. not (any (2 ^ n) (λ y. free y && eqb (entryOf N (n + g) y) t))) rule
+        (λ t ht. sym (every-not (2 ^ n) (λ y. free y && eqb (entryOf N (n + g) y) t))
+        ∙ every-ext (2 ^ n) (λ y. not (free y && eqb (entryOf N (n + g) y) t)) (λ y. eqb (entryOf N (n + g) y) t ⇒ (excluded N y || odc N (n + g) y))
+        (λ y hy. imp-not (eqb (entryOf N (n + g) y) t) (excluded N y || odc N (n + g) y)))
+        ∙ ap (λ (k : ℕ). tableOf k rule) (sym entries-is)
+      where
+        free : ℕ → Bool
+        free y = not (excluded N y || odc N (n + g) y)
+
+        rule : ℕ → Bool
+        rule t = every (2 ^ n) (λ y. eqb (entryOf N (n + g) y) t ⇒ (excluded N y || odc N (n + g) y))
+
+        inside : (l e q : Bool) → (l && not (e || (l && q))) ≡ (l && not (e || q))
+        inside true e q = refl
+        inside false e q = refl
+
+-- ## The tables of all gates
+
+pub no-tables : (N : Net) (n : ℕ) → Tabled N (replicate {A = ℕ} 40 0) (replicate {A = ℕ} 40 0) n 0
+no-tables N n = record { cdc-at = λ g h. absurd (omega arith); full-at = λ g h. absurd (omega arith); past = λ g h. (zeros 40 g, zeros 40 g) }
+  where
+    zeros : (k g : ℕ) → getD (replicate {A = ℕ} k 0) g 0 ≡ 0
+    zeros zero g = refl
+    zeros (suc k) zero = refl
+    zeros (suc k) (suc g) = zeros k g
+
+pub tables-more : (N : Net) (cdcs fulls : List ℕ) (n g x y : ℕ) → length cdcs ≡ 40 → length fulls ≡ 40 → g < 40 → Tabled N cdcs fulls n g
+    → x ≡ cdc N (n + g) → y ≡ full N (n + g) → Tabled N (set cdcs g x) (set fulls g y) n (g + 1)
+tables-more N cdcs fulls n g x y lc lf h t ex ey = record {
+  cdc-at = filled cdcs (λ g. cdc N (n + g)) g x (omega arith) (t .cdc-at) ex;
+  full-at = filled fulls (λ g. full N (n + g)) g y (omega arith) (t .full-at) ey;
+  past = λ q l. (
+    getD-set-other cdcs g q x 0 (λ e. absurd (omega arith)) ∙ t .past q (omega arith) .0,
+    getD-set-other fulls g q y 0 (λ e. absurd (omega arith)) ∙ t .past q (omega arith) .1,
+  );
+}

@@ -1,0 +1,78 @@
+-- `dontcares::odc_words` meets its contract. Assumes nothing.
+use borrow.Author.Needs.{needs}
+use mathlib.Core.Path.{_≡_, refl}
+use mathlib.Core.List.{List}
+use Prim.Native.Nat.{ℕ, _-_, _≤_, _<_}
+use native.Mathlib.Omega.{arith}
+use lib.ListN.{length}
+use denote.Ref.{now}
+use Rattle.network.specs.Flat.{netOf}
+use Rattle.dontcares.specs.Framed.{OdcAt}
+use Rattle.dontcares.proofs.Words.{odc-more}
+use Rattle.dontcares.proofs.odc_words.Statement.{statement}
+use Rattle.dontcares.proofs.odc_words.Tie as tie
+
+abbrev Inv-loop : tie.InvT-loop
+Inv-loop n m arity fanins tables p outputs rows count live masks l₀ g₀ l g =
+    (g ≤ m) × (length l ≡ 640) × ((ex : List ℕ) (h : ℕ) → h < g → OdcAt (netOf arity fanins tables n m ex outputs p) l n h count)
+
+abbrev μ-loop : tie.MeasureT-loop
+μ-loop n m arity fanins tables p outputs rows count live masks l₀ g₀ l g = m - g
+
+few : (s : tie.Start Inv-loop μ-loop) → (s .args .m ≤ 40) × (s .args .count ≤ 16)
+few s = (s .pre .0 .most, s .pre .1 .1 .1 .cut .words)
+
+fanin-masks-requires : tie.Need-fanin-masks-requires Inv-loop μ-loop
+fanin-masks-requires c κs = c .pre .0
+
+loop-holds : tie.Need-loop-holds Inv-loop μ-loop
+loop-holds c = (omega arith, refl, λ ex h l. absurd (omega arith))
+
+observed-row-requires : tie.Need-observed-row-requires Inv-loop μ-loop
+observed-row-requires c κs =
+    let fm = c .before .before .before in
+    let s = fm .before in
+    (s .pre .0, (s .pre .1 .0, ((omega arith, few s .1, s .pre .1 .1 .0 .0), (s .pre .1 .1 .0 .1, fm .fanin-masks .ensures))))
+
+store-odc-requires : tie.Need-store-odc-requires Inv-loop μ-loop
+store-odc-requires c κs =
+    let l = c .before .before .before .before .before in
+    let s = l .before .before in
+    ((omega (arith, few s .0), few s .1), l .loop .inv .1)
+
+add-g : tie.Need-add-g Inv-loop μ-loop
+add-g c =
+    omega (arith, few (c .before .before .before .before .before .before .before .before) .0)
+
+loop-less : tie.Need-loop-less Inv-loop μ-loop
+loop-less c = search needs
+
+loop-again : tie.Need-loop-again Inv-loop μ-loop
+loop-again c =
+    let ob = c .before .before .before in
+    let l = ob .before .before .before in
+    let s = l .before .before in
+    let a = s .args in (
+      omega arith,
+      c .store-odc .ensures .0,
+      λ ex. odc-more (s .pre .1 .1 .1) (netOf (now (a .arity)) (now (a .fanins)) (now (a .tables)) (a .n) (a .m) ex (now (a .outputs)) (a .p)) (l .loop .l) _ (ob .observed-row .result) (l .loop .g)
+          (c .store-odc .ensures .1) (ob .observed-row .ensures ex) (c .store-odc .ensures .2) (l .loop .inv .2 ex),
+    )
+
+returns : tie.Need-returns Inv-loop μ-loop
+returns c ex g h = c .before .loop .inv .2 ex g (omega arith)
+
+pub odc-words-spec : {M : Type 1} → statement M
+odc-words-spec =
+    tie.close
+    (tie.spec
+    Inv-loop
+    μ-loop
+    fanin-masks-requires
+    loop-holds
+    observed-row-requires
+    store-odc-requires
+    add-g
+    loop-less
+    loop-again
+    returns)

@@ -1,0 +1,85 @@
+-- `dontcares::tables_at` meets its contract. Assumes nothing.
+use borrow.Author.Needs.{needs}
+use mathlib.Core.Path.{_≡_, ap, _∙_}
+use mathlib.Core.List.{[]}
+use Prim.Native.Nat.{ℕ, _-_, _^_, _≤_}
+use native.Mathlib.Omega.{arith}
+use lib.ListN.{getD, replicate, getD-replicate}
+use denote.Ref.{now}
+use Rattle.dontcares.proofs.TableLaws.{below, cdc-is, full-is}
+use Rattle.dontcares.proofs.tables_at.Statement.{statement}
+use Rattle.dontcares.proofs.tables_at.Tie as tie
+
+delivered-requires : tie.Need-delivered-requires
+delivered-requires c κs = search needs
+
+keep-row-requires : tie.Need-keep-row-requires
+keep-row-requires c κs = search needs
+
+delivered-requires-2 : tie.Need-delivered-requires-2
+delivered-requires-2 c κs = search needs
+
+element-copy-out-place : tie.Need-element-copy-out-place
+element-copy-out-place c = search needs
+
+place-requires : tie.Need-place-requires
+place-requires c κs = search needs
+
+entry-count-requires : tie.Need-entry-count-requires
+entry-count-requires c κs = search needs
+
+rest-requires : tie.Need-rest-requires
+rest-requires c κs =
+    let ec = c in
+    let pl = ec .before in
+    let d2 = pl .before .before in
+    let kr = d2 .before .before in
+    let d1 = kr .before in
+    let s = d1 .before .before in
+    let a = s .args in
+    let e : ec .entry-count .result ≡ 2 ^ getD (now (a .arity)) (a .g) 0 = ec .entry-count .ensures .0 ∙ ap (λ (k : ℕ). 2 ^ k) (pl .place .ensures) in
+    (omega (arith, ec .entry-count .ensures .1), below _ _ _ _ e (d1 .delivered .ensures []))
+
+rest-requires-2 : tie.Need-rest-requires-2
+rest-requires-2 c κs =
+    let ec = c .before in
+    let pl = ec .before in
+    let d2 = pl .before .before in
+    let kr = d2 .before .before in
+    let d1 = kr .before in
+    let s = d1 .before .before in
+    let a = s .args in
+    let e : ec .entry-count .result ≡ 2 ^ getD (now (a .arity)) (a .g) 0 = ec .entry-count .ensures .0 ∙ ap (λ (k : ℕ). 2 ^ k) (pl .place .ensures) in
+    (omega (arith, ec .entry-count .ensures .1), below _ _ _ _ e (d2 .delivered2 .ensures []))
+
+returns : tie.Need-returns
+returns c ts outs n m p hg ok sim framed at =
+    let ec = c .before .before in
+    let pl = ec .before in
+    let d2 = pl .before .before in
+    let kr = d2 .before .before in
+    let d1 = kr .before in
+    let s = d1 .before .before in
+    let a = s .args in
+    let e : ec .entry-count .result ≡ 2 ^ getD (now (a .arity)) (a .g) 0 = ec .entry-count .ensures .0 ∙ ap (λ (k : ℕ). 2 ^ k) (pl .place .ensures) in (
+      c .before .rest .ensures ∙ ap (λ (i : ℕ). 2 ^ i - 1 - d1 .delivered .result) e
+          ∙ cdc-is (now (a .arity)) (now (a .fanins)) ts (now (a .excluded)) outs n m p (a .g) hg (now (a .rows)) (a .count) (a .live) ok sim framed (replicate {A = ℕ} 16 (a .live)) (d1 .delivered .result)
+          (λ w h. getD-replicate {A = ℕ} 16 w (a .live) 0 (omega arith)) (d1 .delivered .ensures ts),
+      c .rest2 .ensures ∙ ap (λ (i : ℕ). 2 ^ i - 1 - d2 .delivered2 .result) e
+          ∙ full-is (now (a .arity)) (now (a .fanins)) ts (now (a .excluded)) outs n m p (a .g) hg (now (a .rows)) (a .count) (a .live) ok sim framed (kr .keep-row .result) (now (a .odc)) (d2 .delivered2 .result)
+          at (kr .keep-row .ensures) (d2 .delivered2 .ensures ts),
+    )
+
+pub tables-at-spec : {M : Type 1} → statement M
+tables-at-spec =
+    tie.close
+    (tie.spec
+    delivered-requires
+    keep-row-requires
+    delivered-requires-2
+    element-copy-out-place
+    place-requires
+    entry-count-requires
+    rest-requires
+    rest-requires-2
+    returns)

@@ -1,0 +1,89 @@
+-- `dontcares::tables_of` meets its contract. Assumes nothing.
+use borrow.Author.Needs.{needs}
+use mathlib.Core.Path.{_≡_, refl, subst}
+use mathlib.Core.List.{List}
+use Prim.Native.Nat.{ℕ, _+_, _-_, _≤_, _<_}
+use native.Mathlib.Omega.{arith}
+use lib.ListN.{length, length-set}
+use denote.Ref.{now}
+use Rattle.network.specs.Flat.{netOf}
+use Rattle.network.specs.Valid.{NetOk}
+use Rattle.simulate.specs.Simulated.{Rows}
+use Rattle.dontcares.specs.Framed.{Framed, OdcAt, Tabled}
+use Rattle.dontcares.proofs.TableLaws.{no-tables, tables-more}
+use Rattle.dontcares.proofs.tables_of.Statement.{statement}
+use Rattle.dontcares.proofs.tables_of.Tie as tie
+
+abbrev Inv-loop : tie.InvT-loop
+Inv-loop m arity fanins excluded rows odc count live cdc₀ full₀ g₀ cdc full g =
+    (g ≤ m) × (length cdc ≡ 40) × (length full ≡ 40)
+    × ((ts outs : List ℕ) (n p : ℕ) → NetOk arity fanins n m → Rows arity fanins ts rows n m count → Framed n count live → ((g : ℕ) → g < m → OdcAt (netOf arity fanins ts n m excluded outs p) odc n g count)
+    → Tabled (netOf arity fanins ts n m excluded outs p) cdc full n g)
+
+abbrev μ-loop : tie.MeasureT-loop
+μ-loop m arity fanins excluded rows odc count live cdc₀ full₀ g₀ cdc full g = m - g
+
+loop-holds : tie.Need-loop-holds Inv-loop μ-loop
+loop-holds c =
+    let a = c .args in
+    (omega arith, refl, refl, λ ts outs n p ok sim framed at. no-tables (netOf (now (a .arity)) (now (a .fanins)) ts n (a .m) (now (a .excluded)) outs p) n)
+
+tables-at-requires : tie.Need-tables-at-requires Inv-loop μ-loop
+tables-at-requires c κs =
+    let l = c .before in
+    ((omega arith, omega arith), l .before .pre .1 (l .loop .g) (omega arith))
+
+mul-cdc : tie.Need-mul-cdc Inv-loop μ-loop
+mul-cdc c = search needs
+
+array-write-cdc : tie.Need-array-write-cdc Inv-loop μ-loop
+array-write-cdc c = search needs
+
+mul-full : tie.Need-mul-full Inv-loop μ-loop
+mul-full c = search needs
+
+array-write-full : tie.Need-array-write-full Inv-loop μ-loop
+array-write-full c = search needs
+
+add-g : tie.Need-add-g Inv-loop μ-loop
+add-g c = search needs
+
+loop-less : tie.Need-loop-less Inv-loop μ-loop
+loop-less c = search needs
+
+loop-again : tie.Need-loop-again Inv-loop μ-loop
+loop-again c =
+    let l = c .before .before in
+    let a = l .before .args in (
+      omega arith,
+      simp length-set (l .loop .inv .1),
+      simp length-set (l .loop .inv .2),
+      λ ts outs n p ok sim framed at.
+          let t = c .tables-at .ensures ts outs n (a .m) p (omega arith) ok sim framed (at (l .loop .g) (omega arith)) in
+          tables-more (netOf (now (a .arity)) (now (a .fanins)) ts n (a .m) (now (a .excluded)) outs p) (l .loop .cdc) (l .loop .full) n (l .loop .g) (c .tables-at .result .cdc) (c .tables-at .result .full)
+          (l .loop .inv .1) (l .loop .inv .2) (omega arith) (l .loop .inv .3 ts outs n p ok sim framed at) (t .0) (t .1),
+    )
+
+returns : tie.Need-returns Inv-loop μ-loop
+returns c ts outs n p ok sim framed at =
+    let l = c .before in
+    let a = l .before .args in
+    let e : l .loop .g ≡ a .m = omega arith in
+    subst (λ (k : ℕ). Tabled (netOf (now (a .arity)) (now (a .fanins)) ts n (a .m) (now (a .excluded)) outs p) (l .loop .cdc) (l .loop .full) n k) e (l .loop .inv .3 ts outs n p ok sim framed at)
+
+pub tables-of-spec : {M : Type 1} → statement M
+tables-of-spec =
+    tie.close
+    (tie.spec
+    Inv-loop
+    μ-loop
+    loop-holds
+    tables-at-requires
+    mul-cdc
+    array-write-cdc
+    mul-full
+    array-write-full
+    add-g
+    loop-less
+    loop-again
+    returns)

@@ -1,0 +1,29 @@
+-- What the functions on words know of the patterns' words, and of the words of the ODC. Assumes nothing.
+use mathlib.Core.Path.{_≡_}
+use mathlib.Core.List.{List}
+use Prim.Native.Nat.{ℕ, _+_, _*_, _≤_, _<_}
+use mathlib.Core.Bool.{Bool}
+use lib.Dec.{ltb}
+use lib.ListN.{getD}
+use Rattle.bits.specs.Bit.{bit}
+use Rattle.bits.specs.Cut.{Cut, wordCount}
+use Rattle.network.specs.Net.{Net}
+use Rattle.network.specs.DontCares.{odc, cdc, full}
+use Rattle.network.specs.Flat.{wordOf}
+
+-- the patterns of n inputs take `count` words, and `live` has the places of each that are patterns
+pub record Framed (n count live : ℕ) : Type 0 where
+  pub words : count ≡ wordCount n
+  pub size : ℕ
+  pub cut : Cut n count size
+  pub lives : (b : ℕ) → bit live b ≡ ltb b size
+
+-- the words of gate g's ODC stand at place 16 g and on
+unfoldable pub OdcAt : (N : Net) (l : List ℕ) (n g count : ℕ) → Type 0
+OdcAt N l n g count = (w : ℕ) → w < count → getD l (16 * g + w) 0 ≡ wordOf n (odc N (n + g)) w
+
+-- the tables of the first m gates, zero past them
+pub record Tabled (N : Net) (cdcs fulls : List ℕ) (n m : ℕ) : Type 0 where
+  pub cdc-at : (g : ℕ) → g < m → getD cdcs g 0 ≡ cdc N (n + g)
+  pub full-at : (g : ℕ) → g < m → getD fulls g 0 ≡ full N (n + g)
+  pub past : (g : ℕ) → m ≤ g → (getD cdcs g 0 ≡ 0) × (getD fulls g 0 ≡ 0)

@@ -1,0 +1,458 @@
+// Rules 1 to 4: don't-care sets and tables of the current network, 64 patterns a word.
+ghost use mathlib.Core.Path.{_≡_};
+ghost use mathlib.Core.Bool.{_&&_, _||_, not};
+ghost use mathlib.Core.List.{List};
+ghost use Prim.Native.Nat.{ℕ, _+_, _*_, _%_, _^_, _<_, _≤_};
+ghost use lib.Bits.{bitOr, bitXor};
+ghost use lib.Dec.{eqb};
+ghost use lib.ListN.{length, getD};
+ghost use Rattle.bits.specs.Range.{any};
+ghost use Rattle.bits.specs.Bit.{bit, differs, tableOf, column};
+ghost use Rattle.bits.specs.Cut.{wordCount};
+ghost use Rattle.network.specs.declared.Answer.the-variants.{Done};
+ghost use Rattle.network.specs.Net.{entry};
+ghost use Rattle.network.specs.DontCares.{sdc, cdc, odc, full};
+ghost use Rattle.network.specs.Flat.{gateAt, netOf, currentNet, wordOf};
+ghost use Rattle.network.specs.State.{stateFault};
+ghost use Rattle.network.specs.Valid.{GateOk, NetOk, OutputsOk};
+ghost use Rattle.simulate.specs.Simulated.{wordsAt, valueAt, Rows, Masked};
+ghost use Rattle.dontcares.specs.Framed.{Framed, OdcAt, Tabled};
+use network::Session;
+
+// How many words the patterns of n inputs take, and the places of each that are patterns.
+struct Frame {
+    pub count: usize,
+    pub live: u64,
+}
+
+fn extent(n: usize) -> Frame
+    requires { ⌜ n ≤ 10 ⌝ }
+    ensures { λ r. ⌜ Framed n (r .count) (r .live) ⌝ }
+{
+    let z = bits::size(n);
+    let live = bits::mask(z.places);
+    Frame {
+        count: z.words,
+        live: live,
+    }
+}
+
+// Adds the places where the words of signal s differ.
+fn differing(seen: &mut [u64; 16], rows: &[u64; 800], other: &[u64; 800], s: usize, count: usize)
+    requires { ⌜ (s < 50) × (count ≤ 16) ⌝ }
+    requires { ⌜ length (now seen) ≡ 16 ⌝ }
+    ensures { λ _. ⌜ (length (now (seen .exit)) ≡ 16) × ((w : ℕ) → w < count → getD (now (seen .exit)) w 0 ≡ bitOr (getD (now (seen .entry)) w 0) (bitXor (getD (now (rows .entry)) (16 * s + w) 0) (getD (now (other .entry)) (16 * s + w) 0))) ⌝ }
+{
+    let mut w = 0;
+    while w < count {
+        let v = seen[w] | (rows[16 * s + w] ^ other[16 * s + w]);
+        seen[w] = v;
+        w += 1;
+    }
+}
+
+// The places where some output differs.
+fn observed(
+    p: usize,
+    outputs: &[u8; 8],
+    rows: &[u64; 800],
+    other: &[u64; 800],
+    count: usize,
+) -> [u64; 16]
+    requires { ⌜ OutputsOk (now outputs) p 50 ⌝ }
+    requires { ⌜ count ≤ 16 ⌝ }
+    ensures { λ l. ⌜ ((w b : ℕ) → w < count → b < 64 → bit (getD l w 0) b ≡ any p (λ i. differs (valueAt (now (rows .entry)) (getD (now (outputs .entry)) i 0) w b) (valueAt (now (other .entry)) (getD (now (outputs .entry)) i 0) w b))) ⌝ }
+{
+    let mut l = [0u64; 16];
+    let mut i = 0;
+    while i < p {
+        let s = network::place(outputs[i]);
+        differing(&mut l, rows, other, s, count);
+        i += 1;
+    }
+    l
+}
+
+// The patterns at which inverting gate g changes an output.
+fn observed_row(
+    n: usize,
+    m: usize,
+    arity: &[u8; 40],
+    fanins: &[u8; 240],
+    tables: &[u64; 40],
+    p: usize,
+    outputs: &[u8; 8],
+    masks: &[u64; 40],
+    rows: &[u64; 800],
+    count: usize,
+    g: usize,
+) -> [u64; 16]
+    requires { ⌜ NetOk (now arity) (now fanins) n m ⌝ }
+    requires { ⌜ OutputsOk (now outputs) p (n + m) ⌝ }
+    requires { ⌜ (g < m) × (count ≤ 16) × (length (now rows) ≡ 800) ⌝ }
+    requires { ⌜ Rows (now arity) (now fanins) (now tables) (now rows) n m count ⌝ }
+    requires { ⌜ Masked (now arity) (now fanins) (now masks) m ⌝ }
+    ensures { λ l. ⌜ ((ex : List ℕ) (w b : ℕ) → w < count → b < 64 → bit (getD l w 0) b ≡ not (odc (netOf (now (arity .entry)) (now (fanins .entry)) (now (tables .entry)) n m ex (now (outputs .entry)) p) (n + g) (w * 64 + b))) ⌝ }
+{
+    let other = simulate::inverted(n, m, arity, fanins, tables, masks, rows, count, g);
+    observed(p, outputs, rows, &other, count)
+}
+
+// The live places that are not seen.
+fn odc_word(live: u64, seen: u64) -> u64
+    ensures { λ r. ⌜ r ≡ tableOf 64 (λ b. bit live b && not (bit seen b)) ⌝ }
+{
+    live & bits::invert(seen)
+}
+
+// The words of gate g's ODC, from the row of places that are seen.
+fn store_odc(odc: &mut [u64; 640], seen: &[u64; 16], live: u64, count: usize, g: usize)
+    requires { ⌜ (g < 40) × (count ≤ 16) ⌝ }
+    requires { ⌜ length (now odc) ≡ 640 ⌝ }
+    ensures { λ _. ⌜ (length (now (odc .exit)) ≡ 640) × ((w : ℕ) → w < count → getD (now (odc .exit)) (16 * g + w) 0 ≡ tableOf 64 (λ b. bit live b && not (bit (getD (now (seen .entry)) w 0) b))) × ((q : ℕ) → q < 16 * g → getD (now (odc .exit)) q 0 ≡ getD (now (odc .entry)) q 0) ⌝ }
+{
+    let mut w = 0;
+    while w < count {
+        let v = odc_word(live, seen[w]);
+        odc[16 * g + w] = v;
+        w += 1;
+    }
+}
+
+// The words of each gate's ODC.
+fn odc_words(
+    n: usize,
+    m: usize,
+    arity: &[u8; 40],
+    fanins: &[u8; 240],
+    tables: &[u64; 40],
+    p: usize,
+    outputs: &[u8; 8],
+    rows: &[u64; 800],
+    count: usize,
+    live: u64,
+) -> [u64; 640]
+    requires { ⌜ NetOk (now arity) (now fanins) n m ⌝ }
+    requires { ⌜ OutputsOk (now outputs) p (n + m) ⌝ }
+    requires { ⌜ (length (now rows) ≡ 800) × Rows (now arity) (now fanins) (now tables) (now rows) n m count ⌝ }
+    requires { ⌜ Framed n count live ⌝ }
+    ensures { λ l. ⌜ ((ex : List ℕ) (g : ℕ) → g < m → OdcAt (netOf (now (arity .entry)) (now (fanins .entry)) (now (tables .entry)) n m ex (now (outputs .entry)) p) l n g count) ⌝ }
+{
+    let masks = simulate::fanin_masks(n, m, arity, fanins);
+    let mut l = [0u64; 640];
+    let mut g = 0;
+    while g < m {
+        let seen = observed_row(
+            n,
+            m,
+            arity,
+            fanins,
+            tables,
+            p,
+            outputs,
+            &masks,
+            rows,
+            count,
+            g,
+        );
+        store_odc(&mut l, &seen, live, count, g);
+        g += 1;
+    }
+    l
+}
+
+// The words of gate g's ODC at their place, and zero elsewhere.
+fn gate_odc(
+    n: usize,
+    m: usize,
+    arity: &[u8; 40],
+    fanins: &[u8; 240],
+    tables: &[u64; 40],
+    p: usize,
+    outputs: &[u8; 8],
+    rows: &[u64; 800],
+    count: usize,
+    live: u64,
+    g: usize,
+) -> [u64; 640]
+    requires { ⌜ NetOk (now arity) (now fanins) n m ⌝ }
+    requires { ⌜ OutputsOk (now outputs) p (n + m) ⌝ }
+    requires { ⌜ (length (now rows) ≡ 800) × Rows (now arity) (now fanins) (now tables) (now rows) n m count ⌝ }
+    requires { ⌜ Framed n count live ⌝ }
+    requires { ⌜ g < m ⌝ }
+    ensures { λ l. ⌜ ((ex : List ℕ) → OdcAt (netOf (now (arity .entry)) (now (fanins .entry)) (now (tables .entry)) n m ex (now (outputs .entry)) p) l n g count) ⌝ }
+{
+    let masks = simulate::fanin_masks(n, m, arity, fanins);
+    let seen = observed_row(
+        n,
+        m,
+        arity,
+        fanins,
+        tables,
+        p,
+        outputs,
+        &masks,
+        rows,
+        count,
+        g,
+    );
+    let mut l = [0u64; 640];
+    store_odc(&mut l, &seen, live, count, g);
+    l
+}
+
+// The live places of each word that lie neither in E nor in gate g's ODC.
+fn keep_row(excluded: &[u64; 16], odc: &[u64; 640], live: u64, count: usize, g: usize) -> [u64; 16]
+    requires { ⌜ (g < 40) × (count ≤ 16) ⌝ }
+    ensures { λ l. ⌜ ((w b : ℕ) → w < count → b < 64 → bit (getD l w 0) b ≡ (bit live b && not (bit (getD (now (excluded .entry)) w 0) b || bit (getD (now (odc .entry)) (16 * g + w) 0) b))) ⌝ }
+{
+    let mut l = [0u64; 16];
+    let mut w = 0;
+    while w < count {
+        l[w] = live & bits::invert(excluded[w] | odc[16 * g + w]);
+        w += 1;
+    }
+    l
+}
+
+// The entries of gate g that the places of keep deliver. Once all are, the words left add none.
+fn delivered(
+    arity: &[u8; 40],
+    fanins: &[u8; 240],
+    rows: &[u64; 800],
+    keep: &[u64; 16],
+    count: usize,
+    g: usize,
+) -> u64
+    requires { ⌜ (g < 40) × (count ≤ 16) ⌝ }
+    requires { ⌜ GateOk (now arity) (now fanins) g 50 ⌝ }
+    ensures { λ r. ⌜ ((ts : List ℕ) → r ≡ tableOf (2 ^ getD (now (arity .entry)) g 0) (λ t. any count (λ w. any 64 (λ b. bit (getD (now (keep .entry)) w 0) b && eqb (entry (column (wordsAt (now (rows .entry)) w) b) (gateAt (now (arity .entry)) (now (fanins .entry)) ts g)) t)))) ⌝ }
+{
+    let k = network::place(arity[g]);
+    let all = bits::mask(entries::entry_count(k));
+    let mut acc: u64 = 0;
+    let mut w = 0;
+    while w < count {
+        if acc == all {
+            return acc;
+        }
+        let ins = simulate::gather_at(arity, fanins, rows, g, w);
+        acc = acc | entries::meets(k, &ins, keep[w]);
+        w += 1;
+    }
+    acc
+}
+
+// The CDC and the full table of one gate.
+pub struct GateTables {
+    pub cdc: u64,
+    pub full: u64,
+}
+
+// The tables of gate g, from the rows of all signals and the words of its ODC.
+fn tables_at(
+    arity: &[u8; 40],
+    fanins: &[u8; 240],
+    excluded: &[u64; 16],
+    rows: &[u64; 800],
+    odc: &[u64; 640],
+    count: usize,
+    live: u64,
+    g: usize,
+) -> GateTables
+    requires { ⌜ (g < 40) × (count ≤ 16) ⌝ }
+    requires { ⌜ GateOk (now arity) (now fanins) g 50 ⌝ }
+    ensures { λ r. ⌜ ((ts outs : List ℕ) (n m p : ℕ) → g < m → NetOk (now (arity .entry)) (now (fanins .entry)) n m → Rows (now (arity .entry)) (now (fanins .entry)) ts (now (rows .entry)) n m count → Framed n count live → OdcAt (netOf (now (arity .entry)) (now (fanins .entry)) ts n m (now (excluded .entry)) outs p) (now (odc .entry)) n g count → (r .cdc ≡ cdc (netOf (now (arity .entry)) (now (fanins .entry)) ts n m (now (excluded .entry)) outs p) (n + g)) × (r .full ≡ full (netOf (now (arity .entry)) (now (fanins .entry)) ts n m (now (excluded .entry)) outs p) (n + g))) ⌝ }
+{
+    let all = [live; 16];
+    let came = delivered(arity, fanins, rows, &all, count, g);
+    let keep = keep_row(excluded, odc, live, count, g);
+    let seen = delivered(arity, fanins, rows, &keep, count, g);
+    let c = entries::entry_count(network::place(arity[g]));
+    let cdc = bits::rest(c, came);
+    let full = bits::rest(c, seen);
+    GateTables {
+        cdc: cdc,
+        full: full,
+    }
+}
+
+// The CDC and the full table of each gate, zero past the last.
+pub struct AllTables {
+    pub cdc: [u64; 40],
+    pub full: [u64; 40],
+}
+
+fn tables_of(
+    m: usize,
+    arity: &[u8; 40],
+    fanins: &[u8; 240],
+    excluded: &[u64; 16],
+    rows: &[u64; 800],
+    odc: &[u64; 640],
+    count: usize,
+    live: u64,
+) -> AllTables
+    requires { ⌜ (m ≤ 40) × (count ≤ 16) ⌝ }
+    requires { ⌜ ((g : ℕ) → g < m → GateOk (now arity) (now fanins) g 50) ⌝ }
+    ensures { λ r. ⌜ ((ts outs : List ℕ) (n p : ℕ) → NetOk (now (arity .entry)) (now (fanins .entry)) n m → Rows (now (arity .entry)) (now (fanins .entry)) ts (now (rows .entry)) n m count → Framed n count live → ((g : ℕ) → g < m → OdcAt (netOf (now (arity .entry)) (now (fanins .entry)) ts n m (now (excluded .entry)) outs p) (now (odc .entry)) n g count) → Tabled (netOf (now (arity .entry)) (now (fanins .entry)) ts n m (now (excluded .entry)) outs p) (r .cdc) (r .full) n m) ⌝ }
+{
+    let mut cdc = [0u64; 40];
+    let mut full = [0u64; 40];
+    let mut g = 0;
+    while g < m {
+        let t = tables_at(arity, fanins, excluded, rows, odc, count, live, g);
+        cdc[g] = t.cdc;
+        full[g] = t.full;
+        g += 1;
+    }
+    AllTables {
+        cdc: cdc,
+        full: full,
+    }
+}
+
+// Rule 3 for all gates: the words of gate g's ODC stand at place 16 * g and on; spare bits are zero.
+pub fn odc_sets(s: Session) -> [u64; 640]
+    requires { ⌜ stateFault s ≡ Done ⌝ }
+    ensures { λ l. ⌜ ((g w : ℕ) → g < s .m → w < wordCount (s .n) → getD l (16 * g + w) 0 ≡ wordOf (s .n) (odc (currentNet s) (s .n + g)) w) ⌝ }
+{
+    let n = network::place(s.n);
+    let m = network::place(s.m);
+    let p = network::place(s.p);
+    let arity = s.arity;
+    let fanins = s.fanins;
+    let tables = s.current;
+    let outputs = s.outputs;
+    let f = extent(n);
+    let count = f.count;
+    let rows = simulate::rows(n, m, &arity, &fanins, &tables, count);
+    odc_words(
+        n,
+        m,
+        &arity,
+        &fanins,
+        &tables,
+        p,
+        &outputs,
+        &rows,
+        count,
+        f.live,
+    )
+}
+
+// The ODC, the CDC and the full table of each gate.
+pub struct Sets {
+    pub odc: [u64; 640],
+    pub cdc: [u64; 40],
+    pub full: [u64; 40],
+}
+
+// Rules 2 to 4 for all gates.
+pub fn all_sets(s: Session) -> Sets
+    requires { ⌜ stateFault s ≡ Done ⌝ }
+    ensures { λ r. ⌜ ((g w : ℕ) → g < s .m → w < wordCount (s .n) → getD (r .odc) (16 * g + w) 0 ≡ wordOf (s .n) (odc (currentNet s) (s .n + g)) w) × Tabled (currentNet s) (r .cdc) (r .full) (s .n) (s .m) ⌝ }
+{
+    let n = network::place(s.n);
+    let m = network::place(s.m);
+    let p = network::place(s.p);
+    let arity = s.arity;
+    let fanins = s.fanins;
+    let tables = s.current;
+    let outputs = s.outputs;
+    let excluded = s.excluded;
+    let f = extent(n);
+    let count = f.count;
+    let live = f.live;
+    let rows = simulate::rows(n, m, &arity, &fanins, &tables, count);
+    let odc = odc_words(
+        n,
+        m,
+        &arity,
+        &fanins,
+        &tables,
+        p,
+        &outputs,
+        &rows,
+        count,
+        live,
+    );
+    let t = tables_of(m, &arity, &fanins, &excluded, &rows, &odc, count, live);
+    let cdc = t.cdc;
+    let full = t.full;
+    Sets {
+        odc: odc,
+        cdc: cdc,
+        full: full,
+    }
+}
+
+// Rules 2 and 4 for all gates.
+pub fn all_tables(s: Session) -> AllTables
+    requires { ⌜ stateFault s ≡ Done ⌝ }
+    ensures { λ r. ⌜ Tabled (currentNet s) (r .cdc) (r .full) (s .n) (s .m) ⌝ }
+{
+    let t = all_sets(s);
+    let cdc = t.cdc;
+    let full = t.full;
+    AllTables {
+        cdc: cdc,
+        full: full,
+    }
+}
+
+// Rules 2 and 4 for gate g.
+pub fn gate_tables(s: Session, g: usize) -> GateTables
+    requires { ⌜ stateFault s ≡ Done ⌝ }
+    requires { ⌜ g < s .m ⌝ }
+    ensures { λ r. ⌜ (r .cdc ≡ cdc (currentNet s) (s .n + g)) × (r .full ≡ full (currentNet s) (s .n + g)) ⌝ }
+{
+    let n = network::place(s.n);
+    let m = network::place(s.m);
+    let p = network::place(s.p);
+    let arity = s.arity;
+    let fanins = s.fanins;
+    let tables = s.current;
+    let outputs = s.outputs;
+    let excluded = s.excluded;
+    let f = extent(n);
+    let count = f.count;
+    let live = f.live;
+    let rows = simulate::rows(n, m, &arity, &fanins, &tables, count);
+    let odc = gate_odc(
+        n,
+        m,
+        &arity,
+        &fanins,
+        &tables,
+        p,
+        &outputs,
+        &rows,
+        count,
+        live,
+        g,
+    );
+    tables_at(&arity, &fanins, &excluded, &rows, &odc, count, live, g)
+}
+
+// Rule 1 for a table of k fan-ins: its entries, then their complement.
+fn sdc_of(k: usize, table: u64) -> u64
+    requires { ⌜ (k ≤ 4) × (table < 2 ^ 2 ^ k) ⌝ }
+    ensures { λ r. ⌜ r ≡ tableOf (2 ^ (k + 1)) (λ e. differs (bit e k) (bit table (e % 2 ^ k))) ⌝ }
+{
+    let c = entries::entry_count(k);
+    let other = bits::rest(c, table);
+    table + (other << c)
+}
+
+// Rule 1 for gate g.
+pub fn sdc(s: Session, g: usize) -> u64
+    requires { ⌜ stateFault s ≡ Done ⌝ }
+    requires { ⌜ g < s .m ⌝ }
+    ensures { λ r. ⌜ r ≡ sdc (currentNet s) (s .n + g) ⌝ }
+{
+    let arity = s.arity;
+    let tables = s.current;
+    let k = network::place(arity[g]);
+    sdc_of(k, tables[g])
+}

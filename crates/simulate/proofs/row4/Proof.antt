@@ -1,0 +1,126 @@
+-- `simulate::row4` meets its contract. Assumes nothing.
+use borrow.Author.Needs.{needs}
+use mathlib.Core.Path.{_≡_, refl}
+use mathlib.Core.List.{[], _∷_}
+use Prim.Native.Nat.{ℕ, _-_, _≤_, _<_}
+use native.Mathlib.Omega.{arith}
+use lib.ListN.{length, getD, length-set}
+use denote.Ref.{now}
+use Rattle.bits.specs.Bit.{bit, number}
+use Rattle.simulate.specs.Simulated.{valueAt}
+use Rattle.simulate.proofs.RowLaws.{filled-bits}
+use Rattle.simulate.proofs.row4.Statement.{statement}
+use Rattle.simulate.proofs.row4.Tie as tie
+
+abbrev Inv-loop : tie.InvT-loop
+Inv-loop t rows count a b c d l₀ w₀ l w =
+    (w ≤ count) × (length l ≡ 16) × ((q i : ℕ) → q < w → i < 64 → bit (getD l q 0) i ≡ bit t (number (valueAt rows a q i ∷ valueAt rows b q i ∷ valueAt rows c q i ∷ valueAt rows d q i ∷ [])))
+
+abbrev μ-loop : tie.MeasureT-loop
+μ-loop t rows count a b c d l₀ w₀ l w = count - w
+
+loop-holds : tie.Need-loop-holds Inv-loop μ-loop
+loop-holds c = (omega arith, refl, λ q i h k. absurd (omega arith))
+
+mul-lut4 : tie.Need-mul-lut4 Inv-loop μ-loop
+mul-lut4 c = search needs
+
+add-lut4 : tie.Need-add-lut4 Inv-loop μ-loop
+add-lut4 c = search needs
+
+mul-lut4-2 : tie.Need-mul-lut4-2 Inv-loop μ-loop
+mul-lut4-2 c = search needs
+
+element-copy-out-lut4 : tie.Need-element-copy-out-lut4 Inv-loop μ-loop
+element-copy-out-lut4 c = search needs
+
+mul-lut4-3 : tie.Need-mul-lut4-3 Inv-loop μ-loop
+mul-lut4-3 c = search needs
+
+add-lut4-2 : tie.Need-add-lut4-2 Inv-loop μ-loop
+add-lut4-2 c = search needs
+
+mul-lut4-4 : tie.Need-mul-lut4-4 Inv-loop μ-loop
+mul-lut4-4 c = search needs
+
+element-copy-out-lut4-2 : tie.Need-element-copy-out-lut4-2 Inv-loop μ-loop
+element-copy-out-lut4-2 c = search needs
+
+mul-lut4-5 : tie.Need-mul-lut4-5 Inv-loop μ-loop
+mul-lut4-5 c = search needs
+
+add-lut4-3 : tie.Need-add-lut4-3 Inv-loop μ-loop
+add-lut4-3 c = search needs
+
+mul-lut4-6 : tie.Need-mul-lut4-6 Inv-loop μ-loop
+mul-lut4-6 c = search needs
+
+element-copy-out-lut4-3 : tie.Need-element-copy-out-lut4-3 Inv-loop μ-loop
+element-copy-out-lut4-3 c = search needs
+
+mul-lut4-7 : tie.Need-mul-lut4-7 Inv-loop μ-loop
+mul-lut4-7 c = search needs
+
+add-lut4-4 : tie.Need-add-lut4-4 Inv-loop μ-loop
+add-lut4-4 c = search needs
+
+mul-lut4-8 : tie.Need-mul-lut4-8 Inv-loop μ-loop
+mul-lut4-8 c = search needs
+
+element-copy-out-lut4-4 : tie.Need-element-copy-out-lut4-4 Inv-loop μ-loop
+element-copy-out-lut4-4 c = search needs
+
+lut4-requires : tie.Need-lut4-requires Inv-loop μ-loop
+lut4-requires c κs = search needs
+
+mul-l : tie.Need-mul-l Inv-loop μ-loop
+mul-l c = search needs
+
+array-write-l : tie.Need-array-write-l Inv-loop μ-loop
+array-write-l c = search needs
+
+add-w : tie.Need-add-w Inv-loop μ-loop
+add-w c = search needs
+
+loop-less : tie.Need-loop-less Inv-loop μ-loop
+loop-less c = search needs
+
+loop-again : tie.Need-loop-again Inv-loop μ-loop
+loop-again c =
+    let l = c .before .before .before .before .before .before .loop in
+    let s = c .before .before .before .before .before .before .before .args in
+    (omega arith, simp length-set (l .inv .1), filled-bits (l .l) (λ q i. bit (s .t) (number (valueAt (now (s .rows)) (s .a) q i ∷ valueAt (now (s .rows)) (s .b) q i ∷ valueAt (now (s .rows)) (s .c) q i ∷ valueAt (now (s .rows)) (s .d) q i ∷ []))) (l .w) (c .lut4 .result) (omega arith) (l .inv .2) (c .lut4 .ensures))
+
+returns : tie.Need-returns Inv-loop μ-loop
+returns c w i h k = c .before .loop .inv .2 w i (omega arith) k
+
+pub row4-spec : {M : Type 1} → statement M
+row4-spec =
+    tie.close
+    (tie.spec
+    Inv-loop
+    μ-loop
+    loop-holds
+    mul-lut4
+    add-lut4
+    mul-lut4-2
+    element-copy-out-lut4
+    mul-lut4-3
+    add-lut4-2
+    mul-lut4-4
+    element-copy-out-lut4-2
+    mul-lut4-5
+    add-lut4-3
+    mul-lut4-6
+    element-copy-out-lut4-3
+    mul-lut4-7
+    add-lut4-4
+    mul-lut4-8
+    element-copy-out-lut4-4
+    lut4-requires
+    mul-l
+    array-write-l
+    add-w
+    loop-less
+    loop-again
+    returns)
