@@ -7,7 +7,7 @@ use lib.Dec.{ltb}
 use lib.ListN.{length, getD, set, drop, replicate}
 use Rattle.bits.specs.declared.Found.{Found}
 use Rattle.bits.specs.declared.Found.the-variants.{At, Nothing}
-use Rattle.bits.specs.Range.{places, upFrom, firstIn, smallest}
+use Rattle.bits.specs.Range.{places, smallest}
 use Rattle.bits.specs.Bit.{bit, differs}
 use Rattle.network.specs.declared.Session.{Session}
 use Rattle.network.specs.declared.Exchanged.{Exchanged}
