@@ -1,6 +1,6 @@
 -- What a valid session gives the functions on its arrays. Assumes nothing.
 use mathlib.Core.Path.{_≡_}
-use Prim.Native.Nat.{ℕ, _+_, _<_}
+use Prim.Native.Nat.{ℕ, _+_}
 use Rattle.network.specs.declared.Session.{Session}
 use Rattle.network.specs.declared.Answer.the-variants.{Done}
 use Rattle.network.specs.State.{stateFault}

@@ -1,12 +1,12 @@
 -- The SDC: a table, then its complement. Assumes nothing.
-use mathlib.Core.Path.{_≡_, refl, sym, ap, ap₂, _∙_, subst}
-use mathlib.Core.Bool.{Bool, true, false, not}
+use mathlib.Core.Path.{_≡_, refl, sym, ap, ap₂, _∙_}
+use mathlib.Core.Bool.{Bool, true, not}
 use mathlib.Core.List.{List}
-use Prim.Native.Nat.{ℕ, suc, _+_, _-_, _*_, _%_, _^_, _<_, _≤_}
+use Prim.Native.Nat.{ℕ, _+_, _-_, _*_, _%_, _^_, _<_, _≤_}
 use native.Mathlib.Nat.{mod-eq-of-lt, add-mod-left, mul-comm, lt-of-lt-of-le}
 use native.Mathlib.Numerals.{add-one}
 use native.Mathlib.Omega.{arith}
-use lib.ListN.{length, getD}
+use lib.ListN.{getD}
 use lib.Pow.{pow-mono, pow-pos, shl-exact}
 use Rattle.bits.specs.Bit.{bit, differs, tableOf}
 use Rattle.bits.proofs.BitLaws.{bit-above, bit-ext, bit-high}
@@ -14,7 +14,7 @@ use Rattle.bits.proofs.Ranges.{bit-table, table-lt, table-ext, entries-few}
 use Rattle.bits.proofs.Cuts.{table-not}
 use Rattle.network.specs.Net.{Gate, arity}
 use Rattle.network.specs.DontCares.{sdc}
-use Rattle.network.specs.Flat.{gateAt, netOf}
+use Rattle.network.specs.Flat.{netOf}
 use Rattle.network.proofs.Laws.{arity-at, table-at}
 use Rattle.entries.proofs.Halves.{table-append, doubled}
 use Rattle.dontcares.proofs.TableLaws.{gate-is}

@@ -1,26 +1,24 @@
 -- CDC, full table and SDC of a gate by words. Assumes nothing.
-use mathlib.Core.Path.{_≡_, refl, sym, ap, ap₂, _∙_, subst}
+use mathlib.Core.Path.{_≡_, refl, sym, ap, ap₂, _∙_}
 use mathlib.Core.Bool.{Bool, true, false, not, _&&_, _||_}
 use mathlib.Core.List.{List}
-use Prim.Native.Nat.{ℕ, zero, suc, _+_, _-_, _*_, _/_, _%_, _^_, _<_, _≤_}
-use native.Mathlib.Decide.{decLt}
+use Prim.Native.Nat.{ℕ, zero, suc, _+_, _-_, _*_, _^_, _<_, _≤_}
 use native.Mathlib.Numerals.{add-one}
 use native.Mathlib.Omega.{arith}
 use lib.Bits.{bitOr}
-use lib.Dec.{eqb, ltb}
-use lib.ListN.{length, getD, set, take, replicate}
+use lib.Dec.{eqb}
+use lib.ListN.{length, getD, set, replicate}
 use lib.Seq.{getD-take, getD-set-other}
 use Rattle.bits.specs.Range.{_⇒_, places, every, any}
-use Rattle.bits.specs.Bit.{bit, differs, tableOf, column, entryAt}
+use Rattle.bits.specs.Bit.{bit, tableOf, column, entryAt}
 use Rattle.bits.proofs.BitLaws.{bit-ones}
-use Rattle.bits.proofs.Ranges.{and-assoc, and-true, any-e, any-i, any-ext, every-ext, places-at, bit-table, table-lt, table-ext, column-at, filled}
+use Rattle.bits.proofs.Ranges.{and-assoc, and-true, any-e, any-i, any-ext, every-ext, places-at, bit-table, table-lt, table-ext, filled}
 use Rattle.bits.proofs.Cuts.{every-not, table-or, table-none}
 use Rattle.network.specs.Net.{Gate, Net, arity, gate, noGate, entry, values, entryOf, occurs, excluded}
 use Rattle.network.specs.DontCares.{odc, cdc, full}
-use Rattle.network.specs.Flat.{gateAt, gatesOf, netOf, wordOf}
+use Rattle.network.specs.Flat.{gateAt, gatesOf, netOf}
 use Rattle.network.specs.Valid.{NetOk}
 use Rattle.network.proofs.Laws.{arity-at, entry-words, entry-ext}
-use Rattle.entries.specs.By.{tableBy}
 use Rattle.entries.proofs.By.{by-rest}
 use Rattle.simulate.specs.Simulated.{wordsAt, Rows}
 use Rattle.dontcares.specs.Framed.{Framed, OdcAt, Tabled}

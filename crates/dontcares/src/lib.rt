@@ -3,9 +3,8 @@ ghost use mathlib.Core.Path.{_≡_};
 ghost use mathlib.Core.Bool.{_&&_, _||_, not};
 ghost use mathlib.Core.List.{List};
 ghost use Prim.Native.Nat.{ℕ, _+_, _*_, _%_, _^_, _<_, _≤_};
-ghost use lib.Bits.{bitOr, bitXor};
 ghost use lib.Dec.{eqb};
-ghost use lib.ListN.{length, getD};
+ghost use lib.ListN.{getD};
 ghost use Rattle.bits.specs.Range.{any};
 ghost use Rattle.bits.specs.Bit.{bit, differs, tableOf, column};
 ghost use Rattle.bits.specs.Cut.{wordCount};
@@ -14,192 +13,12 @@ ghost use Rattle.network.specs.Net.{entry};
 ghost use Rattle.network.specs.DontCares.{sdc, cdc, odc, full};
 ghost use Rattle.network.specs.Flat.{gateAt, netOf, currentNet, wordOf};
 ghost use Rattle.network.specs.State.{stateFault};
-ghost use Rattle.network.specs.Valid.{GateOk, NetOk, OutputsOk};
-ghost use Rattle.simulate.specs.Simulated.{wordsAt, valueAt, Rows, Masked};
+ghost use Rattle.network.specs.Valid.{GateOk, NetOk};
+ghost use Rattle.simulate.specs.Simulated.{wordsAt, Rows};
 ghost use Rattle.dontcares.specs.Framed.{Framed, OdcAt, Tabled};
 use network::Session;
 
-// How many words the patterns of n inputs take, and the places of each that are patterns.
-struct Frame {
-    pub count: usize,
-    pub live: u64,
-}
-
-fn extent(n: usize) -> Frame
-    requires { ⌜ n ≤ 10 ⌝ }
-    ensures { λ r. ⌜ Framed n (r .count) (r .live) ⌝ }
-{
-    let z = bits::size(n);
-    let live = bits::mask(z.places);
-    Frame {
-        count: z.words,
-        live: live,
-    }
-}
-
-// Adds the places where the words of signal s differ.
-fn differing(seen: &mut [u64; 16], rows: &[u64; 800], other: &[u64; 800], s: usize, count: usize)
-    requires { ⌜ (s < 50) × (count ≤ 16) ⌝ }
-    requires { ⌜ length (now seen) ≡ 16 ⌝ }
-    ensures { λ _. ⌜ (length (now (seen .exit)) ≡ 16) × ((w : ℕ) → w < count → getD (now (seen .exit)) w 0 ≡ bitOr (getD (now (seen .entry)) w 0) (bitXor (getD (now (rows .entry)) (16 * s + w) 0) (getD (now (other .entry)) (16 * s + w) 0))) ⌝ }
-{
-    let mut w = 0;
-    while w < count {
-        let v = seen[w] | (rows[16 * s + w] ^ other[16 * s + w]);
-        seen[w] = v;
-        w += 1;
-    }
-}
-
-// The places where some output differs.
-fn observed(
-    p: usize,
-    outputs: &[u8; 8],
-    rows: &[u64; 800],
-    other: &[u64; 800],
-    count: usize,
-) -> [u64; 16]
-    requires { ⌜ OutputsOk (now outputs) p 50 ⌝ }
-    requires { ⌜ count ≤ 16 ⌝ }
-    ensures { λ l. ⌜ ((w b : ℕ) → w < count → b < 64 → bit (getD l w 0) b ≡ any p (λ i. differs (valueAt (now (rows .entry)) (getD (now (outputs .entry)) i 0) w b) (valueAt (now (other .entry)) (getD (now (outputs .entry)) i 0) w b))) ⌝ }
-{
-    let mut l = [0u64; 16];
-    let mut i = 0;
-    while i < p {
-        let s = network::place(outputs[i]);
-        differing(&mut l, rows, other, s, count);
-        i += 1;
-    }
-    l
-}
-
-// The patterns at which inverting gate g changes an output.
-fn observed_row(
-    n: usize,
-    m: usize,
-    arity: &[u8; 40],
-    fanins: &[u8; 240],
-    tables: &[u64; 40],
-    p: usize,
-    outputs: &[u8; 8],
-    masks: &[u64; 40],
-    rows: &[u64; 800],
-    count: usize,
-    g: usize,
-) -> [u64; 16]
-    requires { ⌜ NetOk (now arity) (now fanins) n m ⌝ }
-    requires { ⌜ OutputsOk (now outputs) p (n + m) ⌝ }
-    requires { ⌜ (g < m) × (count ≤ 16) × (length (now rows) ≡ 800) ⌝ }
-    requires { ⌜ Rows (now arity) (now fanins) (now tables) (now rows) n m count ⌝ }
-    requires { ⌜ Masked (now arity) (now fanins) (now masks) m ⌝ }
-    ensures { λ l. ⌜ ((ex : List ℕ) (w b : ℕ) → w < count → b < 64 → bit (getD l w 0) b ≡ not (odc (netOf (now (arity .entry)) (now (fanins .entry)) (now (tables .entry)) n m ex (now (outputs .entry)) p) (n + g) (w * 64 + b))) ⌝ }
-{
-    let other = simulate::inverted(n, m, arity, fanins, tables, masks, rows, count, g);
-    observed(p, outputs, rows, &other, count)
-}
-
-// The live places that are not seen.
-fn odc_word(live: u64, seen: u64) -> u64
-    ensures { λ r. ⌜ r ≡ tableOf 64 (λ b. bit live b && not (bit seen b)) ⌝ }
-{
-    live & bits::invert(seen)
-}
-
-// The words of gate g's ODC, from the row of places that are seen.
-fn store_odc(odc: &mut [u64; 640], seen: &[u64; 16], live: u64, count: usize, g: usize)
-    requires { ⌜ (g < 40) × (count ≤ 16) ⌝ }
-    requires { ⌜ length (now odc) ≡ 640 ⌝ }
-    ensures { λ _. ⌜ (length (now (odc .exit)) ≡ 640) × ((w : ℕ) → w < count → getD (now (odc .exit)) (16 * g + w) 0 ≡ tableOf 64 (λ b. bit live b && not (bit (getD (now (seen .entry)) w 0) b))) × ((q : ℕ) → q < 16 * g → getD (now (odc .exit)) q 0 ≡ getD (now (odc .entry)) q 0) ⌝ }
-{
-    let mut w = 0;
-    while w < count {
-        let v = odc_word(live, seen[w]);
-        odc[16 * g + w] = v;
-        w += 1;
-    }
-}
-
-// The words of each gate's ODC.
-fn odc_words(
-    n: usize,
-    m: usize,
-    arity: &[u8; 40],
-    fanins: &[u8; 240],
-    tables: &[u64; 40],
-    p: usize,
-    outputs: &[u8; 8],
-    rows: &[u64; 800],
-    count: usize,
-    live: u64,
-) -> [u64; 640]
-    requires { ⌜ NetOk (now arity) (now fanins) n m ⌝ }
-    requires { ⌜ OutputsOk (now outputs) p (n + m) ⌝ }
-    requires { ⌜ (length (now rows) ≡ 800) × Rows (now arity) (now fanins) (now tables) (now rows) n m count ⌝ }
-    requires { ⌜ Framed n count live ⌝ }
-    ensures { λ l. ⌜ ((ex : List ℕ) (g : ℕ) → g < m → OdcAt (netOf (now (arity .entry)) (now (fanins .entry)) (now (tables .entry)) n m ex (now (outputs .entry)) p) l n g count) ⌝ }
-{
-    let masks = simulate::fanin_masks(n, m, arity, fanins);
-    let mut l = [0u64; 640];
-    let mut g = 0;
-    while g < m {
-        let seen = observed_row(
-            n,
-            m,
-            arity,
-            fanins,
-            tables,
-            p,
-            outputs,
-            &masks,
-            rows,
-            count,
-            g,
-        );
-        store_odc(&mut l, &seen, live, count, g);
-        g += 1;
-    }
-    l
-}
-
-// The words of gate g's ODC at their place, and zero elsewhere.
-fn gate_odc(
-    n: usize,
-    m: usize,
-    arity: &[u8; 40],
-    fanins: &[u8; 240],
-    tables: &[u64; 40],
-    p: usize,
-    outputs: &[u8; 8],
-    rows: &[u64; 800],
-    count: usize,
-    live: u64,
-    g: usize,
-) -> [u64; 640]
-    requires { ⌜ NetOk (now arity) (now fanins) n m ⌝ }
-    requires { ⌜ OutputsOk (now outputs) p (n + m) ⌝ }
-    requires { ⌜ (length (now rows) ≡ 800) × Rows (now arity) (now fanins) (now tables) (now rows) n m count ⌝ }
-    requires { ⌜ Framed n count live ⌝ }
-    requires { ⌜ g < m ⌝ }
-    ensures { λ l. ⌜ ((ex : List ℕ) → OdcAt (netOf (now (arity .entry)) (now (fanins .entry)) (now (tables .entry)) n m ex (now (outputs .entry)) p) l n g count) ⌝ }
-{
-    let masks = simulate::fanin_masks(n, m, arity, fanins);
-    let seen = observed_row(
-        n,
-        m,
-        arity,
-        fanins,
-        tables,
-        p,
-        outputs,
-        &masks,
-        rows,
-        count,
-        g,
-    );
-    let mut l = [0u64; 640];
-    store_odc(&mut l, &seen, live, count, g);
-    l
-}
+mod observability;
 
 // The live places of each word that lie neither in E nor in gate g's ODC.
 fn keep_row(excluded: &[u64; 16], odc: &[u64; 640], live: u64, count: usize, g: usize) -> [u64; 16]
@@ -324,10 +143,10 @@ pub fn odc_sets(s: Session) -> [u64; 640]
     let fanins = s.fanins;
     let tables = s.current;
     let outputs = s.outputs;
-    let f = extent(n);
+    let f = observability::extent(n);
     let count = f.count;
     let rows = simulate::rows(n, m, &arity, &fanins, &tables, count);
-    odc_words(
+    observability::odc_words(
         n,
         m,
         &arity,
@@ -361,11 +180,11 @@ pub fn all_sets(s: Session) -> Sets
     let tables = s.current;
     let outputs = s.outputs;
     let excluded = s.excluded;
-    let f = extent(n);
+    let f = observability::extent(n);
     let count = f.count;
     let live = f.live;
     let rows = simulate::rows(n, m, &arity, &fanins, &tables, count);
-    let odc = odc_words(
+    let odc = observability::odc_words(
         n,
         m,
         &arity,
@@ -415,11 +234,11 @@ pub fn gate_tables(s: Session, g: usize) -> GateTables
     let tables = s.current;
     let outputs = s.outputs;
     let excluded = s.excluded;
-    let f = extent(n);
+    let f = observability::extent(n);
     let count = f.count;
     let live = f.live;
     let rows = simulate::rows(n, m, &arity, &fanins, &tables, count);
-    let odc = gate_odc(
+    let odc = observability::gate_odc(
         n,
         m,
         &arity,

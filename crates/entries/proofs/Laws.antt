@@ -1,17 +1,15 @@
 -- One fan-in of `agree`, over plain variables. Assumes nothing.
-use mathlib.Core.Path.{_≡_, refl, sym, ap, ap₂, _∙_, subst}
-use mathlib.Core.Bool.{Bool, true, false, not, _&&_, _||_, Bool·beq}
+use mathlib.Core.Path.{_≡_, sym, ap, ap₂, _∙_}
+use mathlib.Core.Bool.{Bool, _&&_, _||_, Bool·beq}
 use mathlib.Core.List.{List}
-use Prim.Native.Nat.{ℕ, zero, suc, _+_, _*_, _^_, _<_, _≤_}
+use Prim.Native.Nat.{ℕ, _+_}
 use native.Mathlib.Numerals.{add-one}
-use lib.Dec.{eqb}
 use lib.Bits.{bitAnd, bitOr}
-use borrow.Author.Tests.{eq-eqb, eqb-true}
 use lib.ListN.{getD}
-use Rattle.bits.specs.Range.{every, any}
-use Rattle.bits.specs.Bit.{bit, tableOf, entryAt}
-use Rattle.bits.proofs.BitLaws.{bit-and, bit-or, bit-ext, bit-zero}
-use Rattle.bits.proofs.Ranges.{and-assoc, and-true, every-ext, every-e, every-i, or-r, iff, bit-table, table-lt, table-ext, any-ext}
+use Rattle.bits.specs.Range.{every}
+use Rattle.bits.specs.Bit.{bit, entryAt}
+use Rattle.bits.proofs.BitLaws.{bit-and, bit-or}
+use Rattle.bits.proofs.Ranges.{and-assoc, every-ext, bit-table}
 use Rattle.network.specs.Compatible.{agree}
 
 module _ (ins fr : List ℕ) (t b : ℕ) where

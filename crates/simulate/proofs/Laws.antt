@@ -1,19 +1,18 @@
 -- One turn of the simulation, over plain variables. Assumes nothing.
-use mathlib.Core.Path.{_≡_, refl, sym, ap, ap₂, _∙_, subst}
-use mathlib.Core.Bool.{Bool, true, false}
-use mathlib.Core.List.{List, [], _∷_, _++_, map}
-use Prim.Native.Nat.{ℕ, zero, suc, _+_, _*_, _≤_, _<_}
+use mathlib.Core.Path.{_≡_, sym, ap, ap₂, _∙_, subst}
+use mathlib.Core.Bool.{Bool}
+use mathlib.Core.List.{List, [], _∷_, _++_}
+use Prim.Native.Nat.{ℕ, suc, _+_, _≤_, _<_}
 use native.Mathlib.Nat.{add-zero}
 use native.Mathlib.Numerals.{add-one}
 use native.Mathlib.Omega.{arith}
 use lib.ListN.{length, getD, take, set}
 use Rattle.bits.specs.Range.{places}
-use Rattle.bits.specs.Bit.{bit, column, entryAt}
-use Rattle.network.specs.Net.{Gate, entry, run}
+use Rattle.bits.specs.Bit.{bit, column}
+use Rattle.network.specs.Net.{entry, run}
 use Rattle.network.specs.Flat.{gateAt, gatesOf}
 use Rattle.network.specs.Valid.{GateOk}
-use Rattle.simulate.specs.Simulated.{Simulated}
-use Rattle.network.proofs.Laws.{more-words, entry-take, entry-words, gates-suc, run-snoc, table-at}
+use Rattle.network.proofs.Laws.{more-words, entry-take, gates-suc, run-snoc, table-at}
 
 -- fan-ins before e are before any later place
 pub later : {ks fs : List ℕ} {g e f : ℕ} → e ≤ f → GateOk ks fs g e → GateOk ks fs g f

@@ -1,14 +1,13 @@
 -- Rows of words, over plain lists: one turn of the loops that fill them, and what one word number of all rows is. Assumes nothing.
-use mathlib.Core.Path.{_≡_, refl, sym, ap, _∙_}
-use mathlib.Core.Bool.{Bool, true, false}
-use mathlib.Core.List.{List, [], _∷_, map}
+use mathlib.Core.Path.{_≡_, sym, ap, _∙_}
+use mathlib.Core.Bool.{Bool, false}
+use mathlib.Core.List.{List, map}
 use Prim.Native.Nat.{ℕ, _+_, _*_, _≤_, _<_}
 use native.Mathlib.Decide.{ℕ-discrete}
 use native.Mathlib.Omega.{arith}
 use lib.ListN.{length, getD, set, length-set}
 use lib.Seq.{ext-getD, getD-set-same, getD-set-other}
-use Rattle.bits.specs.Range.{places}
-use Rattle.bits.specs.Bit.{bit, number, tableOf, column}
+use Rattle.bits.specs.Bit.{bit, number, column}
 use Rattle.bits.proofs.Ranges.{length-places, places-at, places-ext, map-places, table-ext, column-at}
 use Rattle.network.specs.Net.{entry}
 use Rattle.network.specs.Flat.{faninsAt, gateAt}

@@ -1,7 +1,6 @@
 -- `dontcares::all_sets` meets its contract. Assumes nothing.
 use borrow.Author.Needs.{needs}
 use mathlib.Core.Path.{_≡_}
-use Prim.Native.Nat.{ℕ, _+_, _≤_, _<_}
 use native.Mathlib.Omega.{arith}
 use Rattle.bits.specs.Cut.{wordCount}
 use Rattle.network.specs.Flat.{currentNet}

@@ -1,7 +1,6 @@
 -- `dontcares::gate_tables` meets its contract. Assumes nothing.
 use borrow.Author.Needs.{needs}
-use mathlib.Core.Path.{_≡_}
-use Prim.Native.Nat.{ℕ, _+_, _≤_, _<_}
+use Prim.Native.Nat.{_<_}
 use native.Mathlib.Omega.{arith}
 use Rattle.network.specs.Flat.{currentNet}
 use Rattle.simulate.proofs.Laws.{later}

@@ -1,6 +1,6 @@
 -- `dontcares::sdc_of` meets its contract. Assumes nothing.
 use borrow.Author.Needs.{needs}
-use mathlib.Core.Path.{_≡_, sym, subst}
+use mathlib.Core.Path.{sym, subst}
 use Prim.Native.Nat.{ℕ, _^_, _<_}
 use native.Mathlib.Omega.{arith}
 use Rattle.dontcares.proofs.SdcLaws.{sdc-sum, sdc-fits}

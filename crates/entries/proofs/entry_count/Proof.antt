@@ -1,7 +1,6 @@
 -- `entries::entry_count` meets its contract. Assumes nothing.
 use native.Mathlib.Omega.{arith}
 use mathlib.Core.Path.{refl}
-use Prim.Native.Nat.{_≤_}
 use Rattle.bits.proofs.Cuts.{one-shl}
 use Rattle.bits.proofs.Ranges.{entries-few}
 use borrow.Author.Needs.{needs}

@@ -1,8 +1,5 @@
 -- `entries::meet0` meets its contract. Assumes nothing.
-use borrow.Author.Needs.{needs}
 use mathlib.Core.Bool.{true, false}
-use Rattle.bits.specs.Range.{any}
-use Rattle.bits.specs.Bit.{bit}
 use Rattle.bits.proofs.Ranges.{any-zero, any-some}
 use Rattle.entries.proofs.Halves.{met-none}
 use Rattle.entries.proofs.meet0.Statement.{statement}

@@ -1,9 +1,8 @@
 -- `entries::meet1` meets its contract. Assumes nothing.
 use borrow.Author.Needs.{needs}
 use mathlib.Core.Path.{refl}
-use mathlib.Core.List.{[], _∷_}
+use mathlib.Core.List.{[]}
 use native.Mathlib.Omega.{arith}
-use Rattle.bits.specs.Bit.{bit}
 use Rattle.entries.proofs.Halves.{met-lt, met-split}
 use Rattle.entries.proofs.meet1.Statement.{statement}
 use Rattle.entries.proofs.meet1.Tie as tie

@@ -1,8 +1,8 @@
 -- `simulate::gate_row` meets its contract. Assumes nothing.
 use borrow.Author.Needs.{needs}
-use mathlib.Core.Path.{_≡_, refl, sym, ap, _∙_}
+use mathlib.Core.Path.{_≡_, ap, _∙_}
 use mathlib.Core.List.{[], _∷_}
-use Prim.Native.Nat.{ℕ, _+_, _*_, _<_}
+use Prim.Native.Nat.{_<_}
 use native.Mathlib.Omega.{arith}
 use lib.ListN.{getD}
 use denote.Ref.{now}
@@ -50,7 +50,9 @@ row2-requires c κs =
     let pl = c .before .before .before .before in
     let s = pl .before .before .before in
     let e : getD (now (s .args .arity)) (s .args .g) 0 ≡ 2 = omega (arith, pl .place .ensures) in
-    (omega arith, (omega (arith, c .before .before .before .fanin .ensures, s .pre .1 .early 0 (omega arith)), omega (arith, c .before .fanin2 .ensures, s .pre .1 .early 1 (omega arith))))
+    let early : (c .before .before .before .fanin .result < 50) × (c .before .fanin2 .result < 50) =
+    (omega (arith, c .before .before .before .fanin .ensures, s .pre .1 .early 0 (omega arith)), omega (arith, c .before .fanin2 .ensures, s .pre .1 .early 1 (omega arith))) in
+    (omega arith, (omega arith, omega arith))
 
 returns-2 : tie.Need-returns-2
 returns-2 c w b hw hb =
@@ -69,7 +71,9 @@ row3-requires c κs =
     let pl = c .before .before .before .before .before .before in
     let s = pl .before .before .before in
     let e : getD (now (s .args .arity)) (s .args .g) 0 ≡ 3 = omega (arith, pl .place .ensures) in
-    (omega arith, (omega (arith, c .before .before .before .before .before .fanin .ensures, s .pre .1 .early 0 (omega arith)), omega (arith, c .before .before .before .fanin2 .ensures, s .pre .1 .early 1 (omega arith)), omega (arith, c .before .fanin3 .ensures, s .pre .1 .early 2 (omega arith))))
+    let early : (c .before .before .before .before .before .fanin .result < 50) × (c .before .before .before .fanin2 .result < 50) × (c .before .fanin3 .result < 50) =
+    (omega (arith, c .before .before .before .before .before .fanin .ensures, s .pre .1 .early 0 (omega arith)), omega (arith, c .before .before .before .fanin2 .ensures, s .pre .1 .early 1 (omega arith)), omega (arith, c .before .fanin3 .ensures, s .pre .1 .early 2 (omega arith))) in
+    (omega arith, (omega arith, omega arith, omega arith))
 
 returns-3 : tie.Need-returns-3
 returns-3 c w b hw hb =
@@ -88,7 +92,9 @@ row4-requires c κs =
     let pl = c .before .before .before .before .before .before .before in
     let s = pl .before .before .before in
     let e : getD (now (s .args .arity)) (s .args .g) 0 ≡ 4 = omega (arith, pl .place .ensures, s .pre .1 .some, s .pre .1 .few) in
-    (omega arith, (omega (arith, c .before .before .before .before .before .before .fanin .ensures, s .pre .1 .early 0 (omega arith)), omega (arith, c .before .before .before .before .fanin2 .ensures, s .pre .1 .early 1 (omega arith)), omega (arith, c .before .before .fanin3 .ensures, s .pre .1 .early 2 (omega arith)), omega (arith, c .fanin4 .ensures, s .pre .1 .early 3 (omega arith))))
+    let early : (c .before .before .before .before .before .before .fanin .result < 50) × (c .before .before .before .before .fanin2 .result < 50) × (c .before .before .fanin3 .result < 50) × (c .fanin4 .result < 50) =
+    (omega (arith, c .before .before .before .before .before .before .fanin .ensures, s .pre .1 .early 0 (omega arith)), omega (arith, c .before .before .before .before .fanin2 .ensures, s .pre .1 .early 1 (omega arith)), omega (arith, c .before .before .fanin3 .ensures, s .pre .1 .early 2 (omega arith)), omega (arith, c .fanin4 .ensures, s .pre .1 .early 3 (omega arith))) in
+    (omega arith, (omega arith, omega arith, omega arith, omega arith))
 
 returns-4 : tie.Need-returns-4
 returns-4 c w b hw hb =

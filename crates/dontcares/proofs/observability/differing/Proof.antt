@@ -1,14 +1,14 @@
--- `dontcares::differing` meets its contract. Assumes nothing.
+-- `dontcares::observability::differing` meets its contract. Assumes nothing.
 use borrow.Author.Needs.{needs}
 use mathlib.Core.Path.{_≡_, refl}
-use Prim.Native.Nat.{ℕ, _+_, _-_, _*_, _≤_, _<_}
+use Prim.Native.Nat.{_+_, _-_, _*_, _≤_}
 use native.Mathlib.Omega.{arith}
 use lib.Bits.{bitOr, bitXor}
 use lib.ListN.{length, getD, length-set}
 use denote.Ref.{now}
 use Rattle.bits.proofs.Ranges.{Changed, unchanged, changed-step}
-use Rattle.dontcares.proofs.differing.Statement.{statement}
-use Rattle.dontcares.proofs.differing.Tie as tie
+use Rattle.dontcares.proofs.observability.differing.Statement.{statement}
+use Rattle.dontcares.proofs.observability.differing.Tie as tie
 
 abbrev Inv-loop : tie.InvT-loop
 Inv-loop seen₀ rows other s count w₀ seen w =

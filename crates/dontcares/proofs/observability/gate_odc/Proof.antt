@@ -1,14 +1,13 @@
--- `dontcares::gate_odc` meets its contract. Assumes nothing.
-use borrow.Author.Needs.{needs}
-use mathlib.Core.Path.{_≡_, refl}
-use Prim.Native.Nat.{ℕ, _≤_, _<_}
+-- `dontcares::observability::gate_odc` meets its contract. Assumes nothing.
+use mathlib.Core.Path.{refl}
+use Prim.Native.Nat.{ℕ}
 use native.Mathlib.Omega.{arith}
 use lib.ListN.{replicate}
 use denote.Ref.{now}
 use Rattle.network.specs.Flat.{netOf}
 use Rattle.dontcares.proofs.Words.{odc-own}
-use Rattle.dontcares.proofs.gate_odc.Statement.{statement}
-use Rattle.dontcares.proofs.gate_odc.Tie as tie
+use Rattle.dontcares.proofs.observability.gate_odc.Statement.{statement}
+use Rattle.dontcares.proofs.observability.gate_odc.Tie as tie
 
 fanin-masks-requires : tie.Need-fanin-masks-requires
 fanin-masks-requires c κs = c .pre .0

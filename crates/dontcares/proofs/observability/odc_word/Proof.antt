@@ -1,6 +1,6 @@
--- `dontcares::odc_word` meets its contract. Assumes nothing.
+-- `dontcares::observability::odc_word` meets its contract. Assumes nothing.
 use borrow.Author.Needs.{needs}
-use mathlib.Core.Path.{_≡_, sym, ap, _∙_}
+use mathlib.Core.Path.{sym, ap, _∙_}
 use mathlib.Core.Bool.{Bool, not, _&&_}
 use Prim.Native.Nat.{ℕ}
 use native.Mathlib.Nat.{lt-of-le-of-lt}
@@ -8,8 +8,8 @@ use lib.Bits.{bitAnd, and-le-l}
 use Rattle.bits.specs.Bit.{bit, tableOf}
 use Rattle.bits.proofs.BitLaws.{bit-and, bit-ext}
 use Rattle.bits.proofs.Ranges.{table-lt, bit-table}
-use Rattle.dontcares.proofs.odc_word.Statement.{statement}
-use Rattle.dontcares.proofs.odc_word.Tie as tie
+use Rattle.dontcares.proofs.observability.odc_word.Statement.{statement}
+use Rattle.dontcares.proofs.observability.odc_word.Tie as tie
 
 invert-requires : tie.Need-invert-requires
 invert-requires c κs = search needs

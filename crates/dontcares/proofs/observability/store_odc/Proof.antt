@@ -1,15 +1,15 @@
--- `dontcares::store_odc` meets its contract. Assumes nothing.
+-- `dontcares::observability::store_odc` meets its contract. Assumes nothing.
 use borrow.Author.Needs.{needs}
-use mathlib.Core.Path.{_≡_, refl}
+use mathlib.Core.Path.{refl}
 use mathlib.Core.Bool.{not, _&&_}
-use Prim.Native.Nat.{ℕ, _+_, _-_, _*_, _≤_, _<_}
+use Prim.Native.Nat.{_-_, _≤_}
 use native.Mathlib.Omega.{arith}
 use lib.ListN.{getD}
 use denote.Ref.{now}
 use Rattle.bits.specs.Bit.{bit, tableOf}
 use Rattle.dontcares.proofs.Words.{Stretch, stretch-step}
-use Rattle.dontcares.proofs.store_odc.Statement.{statement}
-use Rattle.dontcares.proofs.store_odc.Tie as tie
+use Rattle.dontcares.proofs.observability.store_odc.Statement.{statement}
+use Rattle.dontcares.proofs.observability.store_odc.Tie as tie
 
 abbrev Inv-loop : tie.InvT-loop
 Inv-loop odc₀ seen live count g w₀ odc w =

@@ -1,8 +1,8 @@
--- `dontcares::extent` meets its contract. Assumes nothing.
+-- `dontcares::observability::extent` meets its contract. Assumes nothing.
 use borrow.Author.Needs.{needs}
 use Rattle.dontcares.proofs.Words.{cut-words}
-use Rattle.dontcares.proofs.extent.Statement.{statement}
-use Rattle.dontcares.proofs.extent.Tie as tie
+use Rattle.dontcares.proofs.observability.extent.Statement.{statement}
+use Rattle.dontcares.proofs.observability.extent.Tie as tie
 
 size-requires : tie.Need-size-requires
 size-requires c κs = search needs

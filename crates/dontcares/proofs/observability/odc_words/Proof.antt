@@ -1,4 +1,4 @@
--- `dontcares::odc_words` meets its contract. Assumes nothing.
+-- `dontcares::observability::odc_words` meets its contract. Assumes nothing.
 use borrow.Author.Needs.{needs}
 use mathlib.Core.Path.{_≡_, refl}
 use mathlib.Core.List.{List}
@@ -9,8 +9,8 @@ use denote.Ref.{now}
 use Rattle.network.specs.Flat.{netOf}
 use Rattle.dontcares.specs.Framed.{OdcAt}
 use Rattle.dontcares.proofs.Words.{odc-more}
-use Rattle.dontcares.proofs.odc_words.Statement.{statement}
-use Rattle.dontcares.proofs.odc_words.Tie as tie
+use Rattle.dontcares.proofs.observability.odc_words.Statement.{statement}
+use Rattle.dontcares.proofs.observability.odc_words.Tie as tie
 
 abbrev Inv-loop : tie.InvT-loop
 Inv-loop n m arity fanins tables p outputs rows count live masks l₀ g₀ l g =

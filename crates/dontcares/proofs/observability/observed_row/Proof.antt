@@ -1,11 +1,11 @@
--- `dontcares::observed_row` meets its contract. Assumes nothing.
+-- `dontcares::observability::observed_row` meets its contract. Assumes nothing.
 use borrow.Author.Needs.{needs}
 use mathlib.Core.Path.{_∙_}
 use native.Mathlib.Omega.{arith}
 use denote.Ref.{now}
 use Rattle.dontcares.proofs.OdcLaws.{observed-odc}
-use Rattle.dontcares.proofs.observed_row.Statement.{statement}
-use Rattle.dontcares.proofs.observed_row.Tie as tie
+use Rattle.dontcares.proofs.observability.observed_row.Statement.{statement}
+use Rattle.dontcares.proofs.observability.observed_row.Tie as tie
 
 inverted-requires : tie.Need-inverted-requires
 inverted-requires c κs = search needs

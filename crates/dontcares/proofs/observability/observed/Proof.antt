@@ -1,16 +1,16 @@
--- `dontcares::observed` meets its contract. Assumes nothing.
+-- `dontcares::observability::observed` meets its contract. Assumes nothing.
 use borrow.Author.Needs.{needs}
 use mathlib.Core.Path.{_≡_, refl, ap, _∙_}
-use Prim.Native.Nat.{ℕ, _+_, _-_, _*_, _≤_, _<_}
+use Prim.Native.Nat.{ℕ, _-_, _≤_, _<_}
 use native.Mathlib.Omega.{arith}
-use lib.ListN.{length, getD, replicate, getD-replicate}
+use lib.ListN.{length, getD, getD-replicate}
 use denote.Ref.{now}
 use Rattle.bits.specs.Range.{any}
 use Rattle.bits.specs.Bit.{bit}
 use Rattle.bits.proofs.BitLaws.{bit-zero}
 use Rattle.dontcares.proofs.OdcLaws.{differing, observed-step}
-use Rattle.dontcares.proofs.observed.Statement.{statement}
-use Rattle.dontcares.proofs.observed.Tie as tie
+use Rattle.dontcares.proofs.observability.observed.Statement.{statement}
+use Rattle.dontcares.proofs.observability.observed.Tie as tie
 
 abbrev Inv-loop : tie.InvT-loop
 Inv-loop p outputs rows other count l₀ i₀ l i =
