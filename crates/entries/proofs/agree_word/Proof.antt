@@ -13,10 +13,10 @@ use Rattle.entries.proofs.agree_word.Statement.{statement}
 use Rattle.entries.proofs.agree_word.Tie as tie
 
 abbrev Inv-loop : tie.InvT-loop
-Inv-loop k ins freeFanins keep t acc₀ r₀ acc r = (r ≤ k) × ((b : ℕ) → b < 64 → bit acc b ≡ (bit keep b && every r (fanin ins freeFanins t b)))
+Inv-loop k ins frees keep t acc₀ r₀ acc r = (r ≤ k) × ((b : ℕ) → b < 64 → bit acc b ≡ (bit keep b && every r (fanin ins frees t b)))
 
 abbrev μ-loop : tie.MeasureT-loop
-μ-loop k ins freeFanins keep t acc₀ r₀ acc r = k - r
+μ-loop k ins frees keep t acc₀ r₀ acc r = k - r
 
 loop-holds : tie.Need-loop-holds Inv-loop μ-loop
 loop-holds c = (omega arith, λ b h. sym (and-true (bit (c .args .keep) b)))
@@ -52,7 +52,7 @@ loop-again c =
     let x = c .before .before .before .bit-of in
     let e = c .before .same in (
       omega arith,
-      λ b h. agree-step (now (s .ins)) (now (s .freeFanins)) (s .t) b (l .acc) (s .keep) (l .r) (e .result) (x .result) (x .ensures) (e .ensures b h) (l .inv .1 b h),
+      λ b h. agree-step (now (s .ins)) (now (s .frees)) (s .t) b (l .acc) (s .keep) (l .r) (e .result) (x .result) (x .ensures) (e .ensures b h) (l .inv .1 b h),
     )
 
 returns : tie.Need-returns Inv-loop μ-loop
@@ -61,7 +61,7 @@ returns c b h =
     let l = c .before .loop in
     let e : l .r ≡ s .k = omega arith in
     l .inv .1 b h
-    ∙ ap (λ (x : Bool). bit (s .keep) b && x) (ap (λ (i : ℕ). every i (fanin (now (s .ins)) (now (s .freeFanins)) (s .t) b)) e ∙ agree-done (now (s .ins)) (now (s .freeFanins)) (s .t) b (s .k))
+    ∙ ap (λ (x : Bool). bit (s .keep) b && x) (ap (λ (i : ℕ). every i (fanin (now (s .ins)) (now (s .frees)) (s .t) b)) e ∙ agree-done (now (s .ins)) (now (s .frees)) (s .t) b (s .k))
 
 pub agree-word-spec : {M : Type 1} → statement M
 agree-word-spec =

@@ -13,11 +13,11 @@ use Rattle.entries.proofs.reach.Statement.{statement}
 use Rattle.entries.proofs.reach.Tie as tie
 
 abbrev Inv-loop : tie.InvT-loop
-Inv-loop k ins freeFanins keep n acc₀ t₀ acc t =
-    (t ≤ n) × (acc ≡ tableOf t (λ t. any 64 (λ b. bit keep b && agree k (entryAt k freeFanins b) (entryAt k ins b) t)))
+Inv-loop k ins frees keep n acc₀ t₀ acc t =
+    (t ≤ n) × (acc ≡ tableOf t (λ t. any 64 (λ b. bit keep b && agree k (entryAt k frees b) (entryAt k ins b) t)))
 
 abbrev μ-loop : tie.MeasureT-loop
-μ-loop k ins freeFanins keep n acc₀ t₀ acc t = n - t
+μ-loop k ins frees keep n acc₀ t₀ acc t = n - t
 
 power-requires : tie.Need-power-requires Inv-loop μ-loop
 power-requires c κs = search needs
@@ -47,15 +47,15 @@ loop-again c =
     let s = c .before .before .before .before .before .before .args in
     let l = c .before .before .before .before .loop in (
       omega arith,
-      table-step (l .t) (λ t. any 64 (λ b. bit (s .keep) b && agree (s .k) (entryAt (s .k) (now (s .freeFanins)) b) (entryAt (s .k) (now (s .ins)) b) t)) (l .acc) (l .inv .1) (c .before .some .result) (c .more .result)
-          (c .before .some .ensures ∙ any-ext 64 (bit (c .before .before .agree-word .result)) (λ b. bit (s .keep) b && agree (s .k) (entryAt (s .k) (now (s .freeFanins)) b) (entryAt (s .k) (now (s .ins)) b) (l .t)) (c .before .before .agree-word .ensures)) (c .more .ensures),
+      table-step (l .t) (λ t. any 64 (λ b. bit (s .keep) b && agree (s .k) (entryAt (s .k) (now (s .frees)) b) (entryAt (s .k) (now (s .ins)) b) t)) (l .acc) (l .inv .1) (c .before .some .result) (c .more .result)
+          (c .before .some .ensures ∙ any-ext 64 (bit (c .before .before .agree-word .result)) (λ b. bit (s .keep) b && agree (s .k) (entryAt (s .k) (now (s .frees)) b) (entryAt (s .k) (now (s .ins)) b) (l .t)) (c .before .before .agree-word .ensures)) (c .more .ensures),
     )
 
 returns : tie.Need-returns Inv-loop μ-loop
 returns c =
     let s = c .before .before .before .args in
     let e : c .before .loop .t ≡ 2 ^ s .k = omega (arith, c .before .before .power .ensures) in
-    c .before .loop .inv .1 ∙ ap (λ (n : ℕ). tableOf n (λ t. any 64 (λ b. bit (s .keep) b && agree (s .k) (entryAt (s .k) (now (s .freeFanins)) b) (entryAt (s .k) (now (s .ins)) b) t))) e
+    c .before .loop .inv .1 ∙ ap (λ (n : ℕ). tableOf n (λ t. any 64 (λ b. bit (s .keep) b && agree (s .k) (entryAt (s .k) (now (s .frees)) b) (entryAt (s .k) (now (s .ins)) b) t))) e
 
 pub reach-spec : {M : Type 1} → statement M
 reach-spec =
