@@ -12,7 +12,7 @@ use network::Session;
 
 // Each function that lays bytes does so from place at on and returns the place behind them.
 
-fn copy(buf: &mut [u8], at: usize, bytes: &[u8]) -> usize
+pub fn copy(buf: &mut [u8], at: usize, bytes: &[u8]) -> usize
     requires { ⌜ Room (now buf) at (now bytes) ⌝ }
     ensures { λ r. ⌜ Laid (now (buf .entry)) at (now (bytes .entry)) (now (buf .exit)) r ⌝ }
 {

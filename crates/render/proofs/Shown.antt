@@ -1,0 +1,158 @@
+-- A loaded session's columns show its network; the listing's text in a buffer. Assumes nothing.
+use mathlib.Core.Path.{_≡_, refl, sym, ap, ap₂, _∙_}
+use mathlib.Core.Bool.{cond}
+use mathlib.Core.List.{List}
+use Prim.Native.Nat.{ℕ, zero, suc, _+_, _-_, _^_, _≤_, _<_}
+use native.Mathlib.Nat.{pow-le-pow-right}
+use native.Mathlib.Omega.{arith}
+use lib.Dec.{ltb}
+use lib.ListN.{length, getD, take, drop}
+use lib.Seq.{take-append-le, take-length}
+use borrow.Author.Tests.{lt-ltb, le-ltb}
+use Rattle.bits.specs.Range.{count}
+use Rattle.bits.specs.Bit.{bit}
+use Rattle.bits.proofs.Ranges.{places-at}
+use Rattle.bits.proofs.Cuts.{count-le}
+use Rattle.network.specs.declared.Session.{Session}
+use Rattle.network.specs.declared.Loaded.{Loaded}
+use Rattle.network.specs.declared.Answer.the-variants.{Done, Refused}
+use Rattle.network.specs.declared.Refusal.{Refusal}
+use Rattle.network.specs.declared.Refusal.the-variants.{BufferTooShort}
+use Rattle.network.specs.Net.{Net, patterns}
+use Rattle.network.specs.DontCares.{cdc, full}
+use Rattle.network.specs.Compatible.{compatible, compatibleCount, openTable, openTables}
+use Rattle.network.specs.Flat.{netOf, loadedNet, currentNet}
+use Rattle.network.specs.Refusals.{numberOf}
+use Rattle.network.specs.Load.{loadOf}
+use Rattle.network.specs.Calls.{overwritten}
+use Rattle.network.proofs.Laws.{length-gates}
+use Rattle.network.proofs.Reached.{loaded-fresh}
+use Rattle.compatible.specs.Words.{perGate}
+use Rattle.dontcares.specs.Framed.{Tabled}
+use Rattle.netwrite.specs.Laid.{Laid}
+use Rattle.netwrite.proofs.Laws.{laid-start}
+use Rattle.render.specs.declared.Columns.{Columns}
+use Rattle.render.specs.Listing.{rows, setEntries, refusedLine, listingOfNet, listingOf, listingInto}
+use Rattle.render.specs.Text.{rowsAt, textOf, Ready, Loads}
+
+-- ## The columns of a network
+
+pub record Shows (N : Net) (t : Columns) : Type 0 where
+  pub inputs : t .n ≡ N .inputs
+  pub gates : t .m ≡ length (N .gates)
+  pub cdc-at : (g : ℕ) → g < t .m → getD (t .cdc) g 0 ≡ cdc N (N .inputs + g)
+  pub full-at : (g : ℕ) → g < t .m → getD (t .full) g 0 ≡ full N (N .inputs + g)
+  pub open-at : (g : ℕ) → g < t .m → getD (t .opens) g 0 ≡ openTable N (N .inputs + g)
+  pub hidden-at : (g : ℕ) → g < t .m → getD (t .hidden) g 0 ≡ compatibleCount N (N .inputs + g)
+
+rows-same : (N : Net) (t : Columns) → Shows N t → (g : ℕ) → g ≤ t .m → rowsAt t g ≡ rows N g
+rows-same N t v zero h = refl
+rows-same N t v (suc g) h =
+    let l : g < t .m = omega arith in
+    rw (rows-same N t v g (omega arith), v .inputs, v .cdc-at g l, v .full-at g l, v .open-at g l, v .hidden-at g l)
+
+set-same : (p q : ℕ → ℕ) (m : ℕ) → ((g : ℕ) → g < m → p g ≡ q g) → setEntries p m ≡ setEntries q m
+set-same p q zero f = refl
+set-same p q (suc m) f =
+    ap₂ (λ (a b : ℕ). a + count 16 (bit b)) (set-same p q m (λ g h. f g (omega arith))) (f m (omega arith))
+
+pub shows-text : (N : Net) (t : Columns) → Shows N t → textOf t ≡ listingOfNet N
+unfolding textOf listingOfNet
+shows-text N t v =
+    rw (
+      rows-same N t v (t .m) (omega arith),
+      set-same (λ g. getD (t .full) g 0) (λ g. full N (N .inputs + g)) (t .m) (v .full-at),
+      set-same (λ g. getD (t .opens) g 0) (λ g. openTable N (N .inputs + g)) (t .m) (v .open-at),
+      v .gates,
+    )
+
+-- ## The columns of a loaded session
+
+loaded-inputs : (s : Session) → loadedNet s .inputs ≡ s .n
+unfolding loadedNet netOf
+loaded-inputs s = refl
+
+loaded-gates : (s : Session) → length (loadedNet s .gates) ≡ s .m
+unfolding loadedNet netOf
+loaded-gates s = length-gates (s .arity) (s .fanins) (s .loaded) (s .m)
+
+current-loaded : (s : Session) → s .current ≡ s .loaded → currentNet s ≡ loadedNet s
+unfolding currentNet loadedNet
+current-loaded s e = rw e
+
+per-gate : (m : ℕ) (p : ℕ → ℕ) (g : ℕ) → m ≤ 40 → g < m → getD (perGate m p) g 0 ≡ p g
+per-gate m p g k h = places-at 0 40 (λ i. cond (ltb i m) (p i) 0) g (omega arith) ∙ rw (lt-ltb g m h)
+
+open-tables : (N : Net) → openTables N ≡ perGate (length (N .gates)) (λ g. openTable N (N .inputs + g))
+unfolding openTables
+open-tables N = refl
+
+module _ (s : Session) (t : Columns) (v : Loads s) (few : s .m ≤ 40) (en : t .n ≡ s .n) (em : t .m ≡ s .m)
+    (k : Tabled (currentNet s) (t .cdc) (t .full) (s .n) (s .m))
+    (eo : t .opens ≡ s .open_tables) (eh : t .hidden ≡ perGate (s .m) (λ g. compatibleCount (loadedNet s) (s .n + g))) where
+  pub shown : Shows (loadedNet s) t
+  shown =
+      let N = loadedNet s in
+      let i = loaded-inputs s in
+      let m = loaded-gates s in
+      let c = current-loaded s (v .same) in
+      record {
+        inputs = en ∙ sym i;
+        gates = em ∙ sym m;
+        cdc-at = λ g h. k .cdc-at g (omega arith) ∙ rw (c, i);
+        full-at = λ g h. k .full-at g (omega arith) ∙ rw (c, i);
+        open-at = λ g h. ap (λ (l : List ℕ). getD l g 0) (eo ∙ v .held ∙ open-tables N)
+            ∙ per-gate (length (N .gates)) (λ x. openTable N (N .inputs + x)) g (omega arith) (omega arith);
+        hidden-at = λ g h. ap (λ (l : List ℕ). getD l g 0) eh ∙ per-gate (s .m) (λ x. compatibleCount N (s .n + x)) g few (omega arith) ∙ rw i;
+      }
+
+hidden-few : (N : Net) (s : ℕ) → N .inputs ≤ 10 → compatibleCount N s ≤ 1024
+unfolding compatibleCount
+hidden-few N s h =
+    let b : 2 ^ N .inputs ≤ 1024 = pow-le-pow-right {n = 2} (omega arith) {i = N .inputs} {j = 10} h in
+    let c = count-le (patterns N) (compatible N s) in
+    omega arith
+
+pub shows-ready : (N : Net) (t : Columns) → Shows N t → t .n ≤ 10 → t .m ≤ 40 → Ready t
+shows-ready N t v i m = record {
+  inputs = i;
+  gates = m;
+  few = λ g h.
+      let e = v .hidden-at g h in
+      let n = v .inputs in
+      let l = hidden-few N (N .inputs + g) (omega arith) in
+      omega arith;
+}
+
+-- ## The listing of bytes
+
+module _ (bytes : List ℕ) (l : Loaded) (e : l ≡ loadOf bytes) where
+  pub loads : l .answer ≡ Done → Loads (l .session)
+  loads a =
+      let f = loaded-fresh bytes (l .session) (sym e ∙ ap (λ x. record { answer = x; session = l .session }) a) in
+      record { valid = f .valid; same = f .same; held = f .held }
+
+  pub listing-loaded : l .answer ≡ Done → listingOf bytes ≡ listingOfNet (loadedNet (l .session))
+  unfolding listingOf
+  listing-loaded a = rw (← e, a)
+
+  pub listing-refused : (r : Refusal) → l .answer ≡ Refused r → listingOf bytes ≡ refusedLine (numberOf r)
+  unfolding listingOf
+  listing-refused r a = rw (← e, a)
+
+-- the text that was laid at a buffer's start, as a part of it
+pub text-part : {b b₁ : List ℕ} {n : ℕ} (text : List ℕ) → Laid b 0 text b₁ n → n ≤ 1042 → 1042 ≤ length b → take (n - 0) (drop 0 b₁) ≡ text
+text-part {b} {b₁} {n} text l few h =
+    let k = l .behind in
+    let w = laid-start b text b₁ n (omega arith) l in
+    let q : n - 0 ≡ length text = omega arith in
+    rw (q, w .1) (take-append-le (length text) text (drop (length text) b) (omega arith) ∙ take-length text)
+
+module _ (bytes buffer : List ℕ) where
+  pub into-short : length buffer < length (listingOf bytes) → listingInto bytes buffer ≡ record { answer = Refused BufferTooShort; buffer = buffer }
+  unfolding listingInto
+  into-short h = rw (lt-ltb (length buffer) (length (listingOf bytes)) h)
+
+  pub into-done : length (listingOf bytes) ≤ length buffer → listingInto bytes buffer ≡ record { answer = Done; buffer = overwritten (listingOf bytes) buffer }
+  unfolding listingInto
+  into-done h = rw (le-ltb (length buffer) (length (listingOf bytes)) h)

@@ -1,0 +1,53 @@
+-- The listing from plain arrays, cut into the pieces that the functions lay. Assumes nothing.
+use mathlib.Core.Path.{_≡_}
+use mathlib.Core.List.{List, [], _∷_, _++_}
+use Prim.Native.Nat.{ℕ, zero, suc, _+_, _≤_, _<_}
+use lib.ListN.{getD}
+use Rattle.bits.specs.Range.{count}
+use Rattle.bits.specs.Bit.{bit}
+use Rattle.network.specs.declared.Session.{Session}
+use Rattle.network.specs.declared.Answer.the-variants.{Done}
+use Rattle.network.specs.Compatible.{openTables}
+use Rattle.network.specs.Flat.{loadedNet}
+use Rattle.network.specs.State.{stateFault}
+use Rattle.render.specs.declared.Columns.{Columns}
+use Rattle.render.specs.Listing.{hex, decimal, header, row, totals, setEntries}
+
+-- a number and the byte behind it
+unfoldable pub number : (x after : ℕ) → List ℕ
+number x after = decimal x ++ after ∷ []
+
+-- a table and the space behind it
+unfoldable pub field : ℕ → List ℕ
+field x = hex x ++ 0x20 ∷ []
+
+-- the set entries of one table
+unfoldable pub entriesIn : ℕ → ℕ
+entriesIn x = count 16 (bit x)
+
+-- the row of gate g
+abbrev pub rowAt : Columns → ℕ → List ℕ
+rowAt t g = row (t .n + g) (getD (t .cdc) g 0) (getD (t .full) g 0) (getD (t .opens) g 0) (getD (t .hidden) g 0)
+
+-- the rows of the first g gates
+abbrev pub rowsAt : Columns → ℕ → List ℕ
+rowsAt t zero = []
+rowsAt t (suc g) = rowsAt t g ++ rowAt t g
+
+abbrev pub setIn : List ℕ → ℕ → ℕ
+setIn tables m = setEntries (λ g. getD tables g 0) m
+
+unfoldable pub textOf : Columns → List ℕ
+textOf t = header ++ rowsAt t (t .m) ++ totals (setIn (t .full) (t .m)) (setIn (t .opens) (t .m))
+
+-- the bounds of 01, which keep each number below 10000
+pub record Ready (t : Columns) : Type 0 where
+  pub inputs : t .n ≤ 10
+  pub gates : t .m ≤ 40
+  pub few : (g : ℕ) → g < t .m → getD (t .hidden) g 0 < 10000
+
+-- what a load leaves
+pub record Loads (s : Session) : Type 0 where
+  pub valid : stateFault s ≡ Done
+  pub same : s .current ≡ s .loaded
+  pub held : s .open_tables ≡ openTables (loadedNet s)
