@@ -1,0 +1,114 @@
+-- Packing and unpacking are inverse. A session that is packed and read back is the same session, whatever words stand behind it;
+-- words that are read as a session and packed again are the same words. So to pack the session that `unpack` gave changes no word, and
+-- `unpack` gives back every valid session that was packed. Assumes nothing.
+use mathlib.Core.Path.{_≡_, refl, sym, ap, _∙_}
+use mathlib.Core.List.{List, [], _∷_, _++_, append-nil}
+use Prim.Native.Nat.{ℕ, _+_, _≤_}
+use native.Mathlib.Omega.{arith}
+use lib.Dec.{ltb}
+use lib.ListN.{length, getD, take, drop, length-append, take-append-drop}
+use lib.Seq.{length-take-le}
+use borrow.Author.Tests.{ltb-true, ltb-false}
+use Rattle.bits.specs.Range.{every}
+use Rattle.bits.proofs.Ranges.{every-e, every-i}
+use Rattle.network.specs.declared.Session.{Session}
+use Rattle.network.specs.declared.Refusal.the-variants.{BufferTooShort, InvalidState}
+use Rattle.network.specs.declared.Answer.{Answer}
+use Rattle.network.specs.declared.Answer.the-variants.{Done, Refused}
+use Rattle.network.specs.State.{stateTest}
+use Rattle.network.specs.Load.{loadDone, onward}
+use Rattle.network.specs.Calls.{roomTest, overwritten}
+use Rattle.network.proofs.TestLaws.{passed, kept, clear-e}
+use Rattle.packed.specs.Packed.{bytesHeld, wordsHeld, packedOf, Sized, Narrow, sessionWords, byteWords, sessionIn, bytesTest, wordsTest, unpackOf}
+use Rattle.packed.proofs.Laws.{length-bytes, length-words, reads, tested}
+use Rattle.packed.proofs.Parts.{cut, join, regroup, three, sized-in, narrow-in, fits}
+
+-- ## A session and its words
+
+-- a packed session has 427 words
+pub packed-length : (s : Session) → Sized s → length (packedOf s) ≡ 427
+unfolding packedOf
+packed-length s z =
+    let a = length-bytes s z in
+    let b = length-words s z in
+    let c = length-append (bytesHeld s) (wordsHeld s) in
+    omega arith
+
+-- read back it is the same, whatever words stand behind it
+pub packed-back : (s : Session) (behind : List ℕ) → Sized s → sessionIn (packedOf s ++ behind) ≡ s
+unfolding packedOf
+packed-back s behind z =
+    let ws = packedOf s ++ behind in
+    let opens = s .open_tables ++ behind in
+    let current = s .current ++ opens in
+    let loaded = s .loaded ++ current in
+    let excluded = s .excluded ++ loaded in
+    let outputs = s .outputs ++ excluded in
+    let fanins = s .fanins ++ outputs in
+    let a = cut ws (s .arity) fanins 3 40 (regroup (s .arity) (s .fanins) (s .outputs) (s .excluded) (s .loaded) (s .current) (s .open_tables) behind) (z .arities) in
+    let f = cut ws (s .fanins) outputs 43 240 (a .1) (z .slots) in
+    let o = cut ws (s .outputs) excluded 283 8 (f .1) (z .outs) in
+    let e = cut ws (s .excluded) loaded 291 16 (o .1) (z .words) in
+    let l = cut ws (s .loaded) current 307 40 (e .1) (z .loads) in
+    let c = cut ws (s .current) opens 347 40 (l .1) (z .currents) in
+    let u = cut ws (s .open_tables) behind 387 40 (c .1) (z .opens) in
+    sym (reads ws (a .0) (f .0) (o .0) (e .0) (l .0) (c .0) (u .0))
+
+-- or none
+pub packed-same : (s : Session) → Sized s → sessionIn (packedOf s) ≡ s
+packed-same s z = rw append-nil at (packed-back s [] z)
+
+-- words read as a session and packed again are the same words
+pub read-back : (ws : List ℕ) → 427 ≤ length ws → packedOf (sessionIn ws) ≡ take 427 ws
+unfolding packedOf sessionIn
+read-back ws h =
+    rw (join ws 3 40 240, join ws 3 280 8, join ws 291 16 40, join ws 291 56 40, join ws 291 96 40, join ws 3 288 136) (three ws (omega arith))
+
+-- ## With the tests
+
+answered : (a : Answer) (s : Session) → onward a (loadDone s) .answer ≡ a
+answered Done s = refl
+answered (Refused r) s = refl
+
+-- `unpack` answers what the tests of the words say
+pub unpack-answer : (ws : List ℕ) → unpackOf ws .answer ≡ wordsTest ws
+unfolding unpackOf
+unpack-answer ws = answered (wordsTest ws) (sessionIn ws)
+
+-- what is known of words that `unpack` accepts
+pub record Unpacked (ws : List ℕ) : Type 0 where
+  pub long : 427 ≤ length ws
+  pub valid : stateTest (sessionIn ws) ≡ Done
+  pub sized : Sized (sessionIn ws)
+  pub narrow : Narrow (sessionIn ws)
+  pub whole : unpackOf ws ≡ loadDone (sessionIn ws)
+
+pub unpacked : (ws : List ℕ) → unpackOf ws .answer ≡ Done → Unpacked ws
+unfolding unpackOf wordsTest bytesTest
+unpacked ws e =
+    let d : wordsTest ws ≡ Done = sym (unpack-answer ws) ∙ e in
+    let t = clear-e (roomTest sessionWords ws ∷ bytesTest ws ∷ stateTest (sessionIn ws) ∷ []) d in
+    let h = ltb-false (length ws) 427 (passed (ltb (length ws) 427) BufferTooShort (t .0)) in
+    let b = every-e byteWords (λ i. ltb (getD ws i 0) 256) (kept (every byteWords (λ i. ltb (getD ws i 0) 256)) InvalidState (t .1 .0)) in
+    record {
+      long = h;
+      valid = t .1 .1 .0;
+      sized = sized-in ws h;
+      narrow = narrow-in ws h (λ i l. ltb-true (getD ws i 0) 256 (b i l));
+      whole = ap (λ (a : Answer). onward a (loadDone (sessionIn ws))) d;
+    }
+
+-- to pack the session that `unpack` gave changes no word
+pub repacked : (ws : List ℕ) → unpackOf ws .answer ≡ Done → overwritten (packedOf (sessionIn ws)) ws ≡ ws
+repacked ws e =
+    let h = unpacked ws e .long in
+    rw (read-back ws h, length-take-le 427 ws h) (take-append-drop 427 ws)
+
+-- `unpack` gives back every valid session that was packed, over whatever words
+pub unpacks : (s : Session) (ws : List ℕ) → Sized s → Narrow s → stateTest s ≡ Done → unpackOf (overwritten (packedOf s) ws) ≡ loadDone s
+unpacks s ws z b v =
+    let behind = drop (length (packedOf s)) ws in
+    let new = packedOf s ++ behind in
+    let m = packed-length s z in
+    let n = length-append (packedOf s) behind in
+    sym (tested new s (omega arith) (every-i byteWords (λ i. ltb (getD new i 0) 256) (fits s behind z b)) (sym (packed-back s behind z)) refl v)

@@ -1,0 +1,138 @@
+-- Numbers laid and read place after place, and tested one after the other. Assumes nothing.
+use mathlib.Core.Path.{_≡_, refl, sym, ap, _∙_}
+use mathlib.Core.Bool.{Bool, true, false, true≢false}
+use mathlib.Core.List.{List, [], _∷_, _++_, append-assoc, append-nil}
+use Prim.Native.Nat.{ℕ, suc, _+_, _≤_, _<_}
+use native.Mathlib.Numerals.{add-one}
+use native.Mathlib.Omega.{arith}
+use lib.Dec.{ltb}
+use lib.ListN.{length, getD, drop, set, length-append, length-drop, drop-of-length-le}
+use lib.Seq.{take-suc, drop-cons, drop-length, getD-drop, set-at, length-take-le, sets}
+use borrow.Author.Tests.{lt-ltb, le-ltb}
+use Rattle.bits.specs.Range.{every}
+use Rattle.bits.proofs.Ranges.{by-cases, every-e}
+use Rattle.network.specs.declared.Session.{Session}
+use Rattle.network.specs.declared.Refusal.the-variants.{BufferTooShort, InvalidState}
+use Rattle.network.specs.declared.Answer.{Answer}
+use Rattle.network.specs.declared.Answer.the-variants.{Done, Refused}
+use Rattle.network.specs.Tests.{first}
+use Rattle.network.specs.State.{stateTest}
+use Rattle.network.specs.Load.{loadDone, loadRefused, onward}
+use Rattle.netwrite.specs.Laid.{Room, Laid}
+use Rattle.netwrite.proofs.Laws.{Left, left-step, left-room, left-done, laid-append, stored}
+use Rattle.packed.specs.Packed.{bytesHeld, wordsHeld, Sized, byteWords, part, sessionIn, bytesTest, wordsTest, unpackOf}
+
+-- ## Laying: xs from place `at` on; its first i numbers are laid, the next goes to place a
+
+laid : {b₁ : List ℕ} {r : ℕ} (b xs : List ℕ) (at : ℕ) → b₁ ≡ sets b at xs → r ≡ at + length xs → Laid b at xs b₁ r
+laid b xs at e p = record { buffer = e; behind = p }
+
+module _ {b₀ xs b : List ℕ} {at a : ℕ} (i : ℕ) (l : Left b₀ at xs b a (drop i xs)) where
+  rest : i < length xs → drop i xs ≡ (getD xs i 0 ∷ []) ++ drop (i + 1) xs
+  rest h = rw add-one (drop-cons xs i 0 h)
+
+  pub lay-place : i < length xs → Room b₀ at xs → a < length b
+  lay-place h r = let k : a + 1 ≤ length b = left-room (getD xs i 0 ∷ []) (drop (i + 1) xs) l (rest h) r in omega arith
+
+  pub lay-more : i < length xs → Left b₀ at xs (set b a (getD xs i 0)) (a + 1) (drop (i + 1) xs)
+  lay-more h = left-step (drop (i + 1) xs) l (rest h) (stored b a (getD xs i 0) (getD xs i 0) refl)
+
+  pub lay-all : length xs ≤ i → b ≡ sets b₀ at xs
+  lay-all h = left-done l (drop-of-length-le xs h) .buffer
+
+-- four stretches, one behind the other
+pub lay-four : {b₁ b₂ b₃ b₄ : List ℕ} (b ws xs ys zs : List ℕ) (at i j k : ℕ)
+    → b₁ ≡ sets b at ws → b₂ ≡ sets b₁ i xs → b₃ ≡ sets b₂ j ys → b₄ ≡ sets b₃ k zs
+    → i ≡ at + length ws → j ≡ i + length xs → k ≡ j + length ys
+    → b₄ ≡ sets b at (ws ++ xs ++ ys ++ zs)
+lay-four {b₁} {b₂} {b₃} b ws xs ys zs at i j k e f g h p q r =
+    laid-append (laid-append (laid-append (laid b ws at e p) (laid b₁ xs i f q)) (laid b₂ ys j g r)) (laid b₃ zs k h refl) .buffer
+
+pub lay-two : {b₁ b₂ : List ℕ} (b xs ys : List ℕ) (at i : ℕ) → b₁ ≡ sets b at xs → b₂ ≡ sets b₁ i ys → i ≡ at + length xs → b₂ ≡ sets b at (xs ++ ys)
+lay-two {b₁} b xs ys at i e f p = laid-append (laid b xs at e p) (laid b₁ ys i f refl) .buffer
+
+-- ## Reading: the words from place `at` on into b₀, of which the first i are read
+
+pub length-part : (ws : List ℕ) (at c : ℕ) → at + c ≤ length ws → length (part ws at c) ≡ c
+length-part ws at c h = length-take-le c (drop at ws) (let n = length-drop at ws in omega arith)
+
+part-more : (ws : List ℕ) (at i : ℕ) → at + i < length ws → part ws at (i + 1) ≡ part ws at i ++ getD ws (at + i) 0 ∷ []
+part-more ws at i h =
+    let n = length-drop at ws in
+    let l : i < length (drop at ws) = omega arith in
+    rw (add-one, take-suc (drop at ws) i 0 l, getD-drop at ws i 0)
+
+module _ (ws b₀ b : List ℕ) (at i : ℕ) (e : b ≡ part ws at i ++ drop i b₀) where
+  pub read-more : at + length b₀ ≤ length ws → i < length b₀ → set b i (getD ws (at + i) 0) ≡ part ws at (i + 1) ++ drop (i + 1) b₀
+  read-more r h =
+      let x = getD ws (at + i) 0 in
+      ap (λ (l : List ℕ). set l i x) (rw (drop-cons b₀ i 0 h) at e)
+      ∙ set-at (part ws at i) (getD b₀ i 0) (drop (suc i) b₀) x i (length-part ws at i (omega arith))
+      ∙ sym (rw (part-more ws at i (omega arith), add-one) (append-assoc (part ws at i) (x ∷ []) (drop (suc i) b₀)))
+
+  pub read-all : i ≡ length b₀ → b ≡ part ws at (length b₀)
+  read-all h = rw h at e ∙ rw (drop-length, append-nil)
+
+-- ## Testing
+
+pub every-not : (n : ℕ) (p : ℕ → Bool) (i : ℕ) → i < n → p i ≡ false → every n p ≡ false
+every-not n p i h e = by-cases (every n p) (λ t. absurd (true≢false (sym (every-e n p t i h) ∙ e))) (λ f. f)
+
+-- ## The whole session
+
+pub length-bytes : (s : Session) → Sized s → length (bytesHeld s) ≡ 291
+length-bytes s z =
+    let a = z .arities in
+    let b = z .slots in
+    let c = z .outs in
+    simp length-append (omega arith)
+
+pub length-words : (s : Session) → Sized s → length (wordsHeld s) ≡ 136
+length-words s z =
+    let a = z .words in
+    let b = z .loads in
+    let c = z .currents in
+    let d = z .opens in
+    simp length-append (omega arith)
+
+pub reads : (ws : List ℕ) {arity fanins outputs excluded loaded current opens : List ℕ}
+    → arity ≡ part ws 3 40 → fanins ≡ part ws 43 240 → outputs ≡ part ws 283 8
+    → excluded ≡ part ws 291 16 → loaded ≡ part ws 307 40 → current ≡ part ws 347 40 → opens ≡ part ws 387 40
+    → record {
+      n = getD ws 0 0;
+      m = getD ws 1 0;
+      p = getD ws 2 0;
+      excluded = excluded;
+      arity = arity;
+      fanins = fanins;
+      loaded = loaded;
+      current = current;
+      open_tables = opens;
+      outputs = outputs;
+    }
+    ≡ sessionIn ws
+unfolding sessionIn
+reads ws a f o e l c u = rw (a, f, o, e, l, c, u)
+
+-- ## The tests of lent words
+
+alone : (a : Answer) → a ≡ first (a ∷ [])
+alone Done = refl
+alone (Refused r) = refl
+
+module _ (ws : List ℕ) where
+  pub too-short : length ws < 427 → loadRefused BufferTooShort ≡ unpackOf ws
+  unfolding unpackOf wordsTest
+  too-short h = rw (lt-ltb (length ws) 427 h)
+
+  abbrev fitting : Bool
+  fitting = every byteWords (λ i. ltb (getD ws i 0) 256)
+
+  pub no-byte : 427 ≤ length ws → fitting ≡ false → loadRefused InvalidState ≡ unpackOf ws
+  unfolding unpackOf wordsTest bytesTest
+  no-byte h e = rw (le-ltb (length ws) 427 h, e)
+
+  pub tested : {v a : Answer} (s : Session) → 427 ≤ length ws → fitting ≡ true → s ≡ sessionIn ws → v ≡ stateTest s → v ≡ a → onward a (loadDone s) ≡ unpackOf ws
+  unfolding unpackOf wordsTest bytesTest
+  tested {v} {a} s h e q k i =
+      rw (le-ltb (length ws) 427 h, e, ← q, ← k, i) (ap (λ (b : Answer). onward b (loadDone s)) (alone a))

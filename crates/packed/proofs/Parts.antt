@@ -1,0 +1,96 @@
+-- Words cut into parts and joined again, and what the parts are like. Assumes nothing.
+use mathlib.Core.Path.{_≡_, refl, sym, ap, _∙_}
+use mathlib.Core.Bool.{true}
+use mathlib.Core.List.{List, [], _∷_, _++_, append-assoc}
+use Prim.Native.Nat.{ℕ, zero, suc, _+_, _≤_, _<_}
+use native.Mathlib.Decide.{decLt}
+use native.Mathlib.Omega.{arith}
+use lib.Dec.{ltb}
+use lib.ListN.{length, getD, take, drop, List·getD-append, List·getD-eq-default}
+use lib.Seq.{take-add, take-at, drop-at, drop-drop, getD-take, getD-drop}
+use borrow.Author.Tests.{lt-ltb}
+use Rattle.network.specs.declared.Session.{Session}
+use Rattle.network.proofs.Reached.{Bytes}
+use Rattle.packed.specs.Packed.{bytesHeld, wordsHeld, packedOf, Sized, Narrow, part, sessionIn}
+use Rattle.packed.proofs.Laws.{length-part, length-bytes}
+
+-- what stands at a place, and what stands behind it
+pub cut : (ws xs ys : List ℕ) (at n : ℕ) → drop at ws ≡ xs ++ ys → length xs ≡ n → (xs ≡ part ws at n) × (drop (at + n) ws ≡ ys)
+cut ws xs ys at n e k =
+    (sym (ap (take n) e ∙ take-at xs ys n k), sym (drop-drop n at ws) ∙ ap (drop n) e ∙ drop-at xs ys n k)
+
+pub join : (ws : List ℕ) (at m n : ℕ) → part ws at m ++ part ws (at + m) n ≡ part ws at (m + n)
+join ws at m n =
+    sym (take-add m n (drop at ws) ∙ ap (λ (l : List ℕ). part ws at m ++ take n l) (drop-drop m at ws))
+
+pub regroup : (a b c d e f g h : List ℕ) → (a ++ b ++ c) ++ (d ++ e ++ f ++ g) ++ h ≡ a ++ (b ++ (c ++ (d ++ (e ++ (f ++ (g ++ h))))))
+regroup a b c d e f g h = simp append-assoc
+
+-- the first three one by one
+pub three : (ws : List ℕ) → 3 ≤ length ws → getD ws 0 0 ∷ getD ws 1 0 ∷ getD ws 2 0 ∷ part ws 3 424 ≡ take 427 ws
+three [] h = let z : ⊥ = omega arith in absurd z
+three (x ∷ []) h = let z : ⊥ = omega arith in absurd z
+three (x ∷ y ∷ []) h = let z : ⊥ = omega arith in absurd z
+three (x ∷ y ∷ z ∷ ws) h = refl
+
+-- ## Bytes
+
+bytes-cons : (x : ℕ) (xs : List ℕ) → x < 256 → Bytes xs → Bytes (x ∷ xs)
+bytes-cons x xs h b zero = h
+bytes-cons x xs h b (suc i) = b i
+
+bytes-append : (xs ys : List ℕ) → Bytes xs → Bytes ys → Bytes (xs ++ ys)
+bytes-append [] ys b c i = c i
+bytes-append (x ∷ xs) ys b c zero = b 0
+bytes-append (x ∷ xs) ys b c (suc i) = bytes-append xs ys (λ j. b (suc j)) c i
+
+bytes-front : (xs ys zs : List ℕ) → Bytes xs → (i : ℕ) → i < length xs → getD (xs ++ ys ++ zs) i 0 < 256
+bytes-front xs ys zs b i l = rw (append-assoc xs ys zs, List·getD-append xs (ys ++ zs) 0 i l) (b i)
+
+bytes-part : (ws : List ℕ) (at c : ℕ) → at + c ≤ length ws → ((i : ℕ) → i < at + c → getD ws i 0 < 256) → Bytes (part ws at c)
+bytes-part ws at c h b i = go (decLt i c)
+  where
+    go : Dec (i < c) → getD (part ws at c) i 0 < 256
+    go (yes l) = rw (getD-take c (drop at ws) i 0 l, getD-drop at ws i 0) (b (at + i) (omega arith))
+    go (no l) =
+        let n = length-part ws at c h in
+        rw (List·getD-eq-default (part ws at c) 0 {n = i} (omega arith)) (omega arith)
+
+bytes-held : (s : Session) → Narrow s → Bytes (bytesHeld s)
+bytes-held s b =
+    bytes-append (s .n ∷ s .m ∷ s .p ∷ s .arity ++ s .fanins) (s .outputs)
+    (bytes-append (s .n ∷ s .m ∷ s .p ∷ s .arity) (s .fanins)
+    (bytes-cons (s .n) (s .m ∷ s .p ∷ s .arity) (b .counts .0)
+    (bytes-cons (s .m) (s .p ∷ s .arity) (b .counts .1)
+    (bytes-cons (s .p) (s .arity) (b .counts .2) (b .arities))))
+    (b .slots))
+    (b .outs)
+
+pub fits : (s : Session) (behind : List ℕ) → Sized s → Narrow s → (i : ℕ) → i < 291 → ltb (getD (packedOf s ++ behind) i 0) 256 ≡ true
+unfolding packedOf
+fits s behind z b i l =
+    let n = length-bytes s z in
+    lt-ltb (getD (packedOf s ++ behind) i 0) 256 (bytes-front (bytesHeld s) (wordsHeld s) behind (bytes-held s b) i (omega arith))
+
+-- ## What words hold
+
+pub sized-in : (ws : List ℕ) → 427 ≤ length ws → Sized (sessionIn ws)
+unfolding sessionIn
+sized-in ws h = record {
+  arities = length-part ws 3 40 (omega arith);
+  slots = length-part ws 43 240 (omega arith);
+  outs = length-part ws 283 8 (omega arith);
+  words = length-part ws 291 16 (omega arith);
+  loads = length-part ws 307 40 (omega arith);
+  currents = length-part ws 347 40 (omega arith);
+  opens = length-part ws 387 40 (omega arith);
+}
+
+pub narrow-in : (ws : List ℕ) → 427 ≤ length ws → ((i : ℕ) → i < 291 → getD ws i 0 < 256) → Narrow (sessionIn ws)
+unfolding sessionIn
+narrow-in ws h b = record {
+  counts = (b 0 (omega arith), b 1 (omega arith), b 2 (omega arith));
+  arities = bytes-part ws 3 40 (omega arith) (λ i l. b i (omega arith));
+  slots = bytes-part ws 43 240 (omega arith) (λ i l. b i (omega arith));
+  outs = bytes-part ws 283 8 (omega arith) b;
+}

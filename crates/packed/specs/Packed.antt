@@ -1,0 +1,81 @@
+-- A session as a list of numbers, one to a word: how a program in another language holds it. Assumes nothing.
+use mathlib.Core.Path.{_≡_}
+use mathlib.Core.Bool.{not}
+use mathlib.Core.List.{List, [], _∷_, _++_}
+use Prim.Native.Nat.{ℕ, _<_}
+use lib.Dec.{ltb}
+use lib.ListN.{length, getD, take, drop}
+use Rattle.bits.specs.Range.{every}
+use Rattle.network.specs.declared.Session.{Session}
+use Rattle.network.specs.declared.Loaded.{Loaded}
+use Rattle.network.specs.declared.Refusal.the-variants.{InvalidState}
+use Rattle.network.specs.declared.Answer.{Answer}
+use Rattle.network.specs.Tests.{refuseIf, first}
+use Rattle.network.specs.State.{stateTest}
+use Rattle.network.specs.Load.{loadDone, onward}
+use Rattle.network.specs.Calls.{roomTest}
+
+-- the numbers that a session holds in bytes
+abbrev pub bytesHeld : Session → List ℕ
+bytesHeld s = s .n ∷ s .m ∷ s .p ∷ s .arity ++ s .fanins ++ s .outputs
+
+-- and those that it holds in words
+abbrev pub wordsHeld : Session → List ℕ
+wordsHeld s = s .excluded ++ s .loaded ++ s .current ++ s .open_tables
+
+unfoldable pub packedOf : Session → List ℕ
+packedOf s = bytesHeld s ++ wordsHeld s
+
+-- how many there are, and how many of them are held in bytes
+abbrev pub sessionWords : ℕ
+sessionWords = 427
+
+abbrev pub byteWords : ℕ
+byteWords = 291
+
+-- the lengths of a session's arrays
+pub record Sized (s : Session) : Type 0 where
+  pub arities : length (s .arity) ≡ 40
+  pub slots : length (s .fanins) ≡ 240
+  pub outs : length (s .outputs) ≡ 8
+  pub words : length (s .excluded) ≡ 16
+  pub loads : length (s .loaded) ≡ 40
+  pub currents : length (s .current) ≡ 40
+  pub opens : length (s .open_tables) ≡ 40
+
+-- the range of what it holds in bytes
+pub record Narrow (s : Session) : Type 0 where
+  pub counts : (s .n < 256) × (s .m < 256) × (s .p < 256)
+  pub arities : (i : ℕ) → getD (s .arity) i 0 < 256
+  pub slots : (i : ℕ) → getD (s .fanins) i 0 < 256
+  pub outs : (i : ℕ) → getD (s .outputs) i 0 < 256
+
+-- c words from place at on
+abbrev pub part : List ℕ → (at c : ℕ) → List ℕ
+part ws at c = take c (drop at ws)
+
+-- the session that the words hold
+unfoldable pub sessionIn : List ℕ → Session
+sessionIn ws = record {
+  n = getD ws 0 0;
+  m = getD ws 1 0;
+  p = getD ws 2 0;
+  excluded = part ws 291 16;
+  arity = part ws 3 40;
+  fanins = part ws 43 240;
+  loaded = part ws 307 40;
+  current = part ws 347 40;
+  open_tables = part ws 387 40;
+  outputs = part ws 283 8;
+}
+
+-- 10: a number past 255 where a session holds a byte
+unfoldable pub bytesTest : List ℕ → Answer
+bytesTest ws = refuseIf (not (every byteWords (λ i. ltb (getD ws i 0) 256))) InvalidState
+
+-- 9 where there are too few words to hold a session, else 10 where what they hold is none, or one that 01 refuses
+unfoldable pub wordsTest : List ℕ → Answer
+wordsTest ws = first (roomTest sessionWords ws ∷ bytesTest ws ∷ stateTest (sessionIn ws) ∷ [])
+
+unfoldable pub unpackOf : List ℕ → Loaded
+unpackOf ws = onward (wordsTest ws) (loadDone (sessionIn ws))

@@ -1,0 +1,181 @@
+// A session in words that another program lends: one number to a word.
+ghost use mathlib.Core.Path.{_≡_};
+ghost use Prim.Native.Nat.{ℕ, _+_, _<_, _≤_};
+ghost use lib.Dec.{ltb};
+ghost use lib.ListN.{length, getD};
+ghost use lib.Seq.{sets};
+ghost use Rattle.bits.specs.Range.{every};
+ghost use Rattle.network.specs.Calls.{overwritten};
+ghost use Rattle.netwrite.specs.Laid.{Room};
+ghost use Rattle.packed.specs.Packed.{bytesHeld, wordsHeld, packedOf, Sized, part, sessionIn, unpackOf};
+use network::Answer;
+use network::Loaded;
+use network::Refusal;
+use network::Session;
+
+// The words that a session takes.
+pub fn session_words() -> usize
+    ensures { λ r. ⌜ r ≡ 427 ⌝ }
+{
+    427
+}
+
+// Numbers laid into the words from place at on.
+fn lay_bytes(words: &mut [u64], at: usize, bytes: &[u8])
+    requires { ⌜ Room (now words) at (now bytes) ⌝ }
+    ensures { λ _. ⌜ now (words .exit) ≡ sets (now (words .entry)) at (now (bytes .entry)) ⌝ }
+{
+    let mut a = at;
+    let mut i: usize = 0;
+    while i < bytes.len() {
+        words[a] = bytes[i] as u64;
+        a += 1;
+        i += 1;
+    }
+}
+
+fn lay_words(words: &mut [u64], at: usize, new: &[u64])
+    requires { ⌜ Room (now words) at (now new) ⌝ }
+    ensures { λ _. ⌜ now (words .exit) ≡ sets (now (words .entry)) at (now (new .entry)) ⌝ }
+{
+    let mut a = at;
+    let mut i: usize = 0;
+    while i < new.len() {
+        words[a] = new[i];
+        a += 1;
+        i += 1;
+    }
+}
+
+// What a session holds in bytes.
+fn pack_bytes(s: Session, words: &mut [u64])
+    requires { ⌜ (427 ≤ length (now words)) × Sized s ⌝ }
+    ensures { λ _. ⌜ now (words .exit) ≡ sets (now (words .entry)) 0 (bytesHeld s) ⌝ }
+{
+    let counts = [s.n, s.m, s.p];
+    let arity = s.arity;
+    let fanins = s.fanins;
+    let outputs = s.outputs;
+    lay_bytes(words, 0, &counts);
+    lay_bytes(words, 3, &arity);
+    lay_bytes(words, 43, &fanins);
+    lay_bytes(words, 283, &outputs);
+}
+
+// What it holds in words.
+fn pack_words(s: Session, words: &mut [u64])
+    requires { ⌜ (427 ≤ length (now words)) × Sized s ⌝ }
+    ensures { λ _. ⌜ now (words .exit) ≡ sets (now (words .entry)) 291 (wordsHeld s) ⌝ }
+{
+    let excluded = s.excluded;
+    let loaded = s.loaded;
+    let current = s.current;
+    let opens = s.open_tables;
+    lay_words(words, 291, &excluded);
+    lay_words(words, 307, &loaded);
+    lay_words(words, 347, &current);
+    lay_words(words, 387, &opens);
+}
+
+// The session from the start of the words; the words behind it stay.
+pub fn pack(s: Session, words: &mut [u64])
+    requires { ⌜ 427 ≤ length (now words) ⌝ }
+    ensures { λ _. ⌜ now (words .exit) ≡ overwritten (packedOf s) (now (words .entry)) ⌝ }
+{
+    pack_bytes(s, words);
+    pack_words(s, words);
+}
+
+// Whether each of the first c words fits in a byte.
+fn fit(words: &[u64], c: usize) -> bool
+    requires { ⌜ c ≤ length (now words) ⌝ }
+    ensures { λ r. ⌜ r ≡ every c (λ i. ltb (getD (now (words .entry)) i 0) 256) ⌝ }
+{
+    let mut i: usize = 0;
+    while i < c {
+        if 255 < words[i] {
+            return false;
+        }
+        i += 1;
+    }
+    true
+}
+
+// The words from place at on, as many as there is room for: numbers below 256 as bytes, or as they are.
+fn read_bytes(words: &[u64], at: usize, bytes: &mut [u8])
+    requires { ⌜ at + length (now bytes) ≤ length (now words) ⌝ }
+    requires { ⌜ ((i : ℕ) → i < length (now bytes) → getD (now words) (at + i) 0 < 256) ⌝ }
+    ensures { λ _. ⌜ now (bytes .exit) ≡ part (now (words .entry)) at (length (now (bytes .entry))) ⌝ }
+{
+    let mut i: usize = 0;
+    while i < bytes.len() {
+        bytes[i] = words[at + i] as u8;
+        i += 1;
+    }
+}
+
+fn read_words(words: &[u64], at: usize, new: &mut [u64])
+    requires { ⌜ at + length (now new) ≤ length (now words) ⌝ }
+    ensures { λ _. ⌜ now (new .exit) ≡ part (now (words .entry)) at (length (now (new .entry))) ⌝ }
+{
+    let mut i: usize = 0;
+    while i < new.len() {
+        new[i] = words[at + i];
+        i += 1;
+    }
+}
+
+// The session that words hold, where each of the first 291 fits in a byte.
+fn session_in(words: &[u64]) -> Session
+    requires { ⌜ 427 ≤ length (now words) ⌝ }
+    requires { ⌜ ((i : ℕ) → i < 291 → getD (now words) i 0 < 256) ⌝ }
+    ensures { λ r. ⌜ r ≡ sessionIn (now (words .entry)) ⌝ }
+{
+    let mut arity = [0u8; 40];
+    let mut fanins = [0u8; 240];
+    let mut outputs = [0u8; 8];
+    let mut excluded = [0u64; 16];
+    let mut loaded = [0u64; 40];
+    let mut current = [0u64; 40];
+    let mut opens = [0u64; 40];
+    read_bytes(words, 3, &mut arity);
+    read_bytes(words, 43, &mut fanins);
+    read_bytes(words, 283, &mut outputs);
+    read_words(words, 291, &mut excluded);
+    read_words(words, 307, &mut loaded);
+    read_words(words, 347, &mut current);
+    read_words(words, 387, &mut opens);
+    Session {
+        n: words[0] as u8,
+        m: words[1] as u8,
+        p: words[2] as u8,
+        excluded: excluded,
+        arity: arity,
+        fanins: fanins,
+        loaded: loaded,
+        current: current,
+        open_tables: opens,
+        outputs: outputs,
+    }
+}
+
+// The session that any words hold, or 9 or 10.
+pub fn unpack(words: &[u64]) -> Loaded
+    ensures { λ r. ⌜ r ≡ unpackOf (now (words .entry)) ⌝ }
+{
+    if words.len() < 427 {
+        return netfile::refused(Refusal::BufferTooShort);
+    }
+    if !fit(words, 291) {
+        return netfile::refused(Refusal::InvalidState);
+    }
+    let s = session_in(words);
+    let v = state::state_test(s);
+    if let Answer::Refused(r) = v {
+        return netfile::refused(r);
+    }
+    Loaded {
+        answer: Answer::Done,
+        session: s,
+    }
+}
