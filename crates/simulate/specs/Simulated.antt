@@ -10,6 +10,10 @@ use Rattle.network.specs.Net.{run}
 use Rattle.network.specs.DontCares.{runInverted}
 use Rattle.network.specs.Flat.{gatesOf}
 
+-- word s of the first i has at bit b the value of input s at the pattern 64 w + b
+abbrev pub Inputs : (words : List ℕ) (i w : ℕ) → Type 0
+Inputs words i w = (b : ℕ) → b < 64 → take i (column words b) ≡ places i (bit (w * 64 + b))
+
 -- word s has at bit b the value of signal s at the pattern 64 w + b
 pub record Simulated (ks fs ts words : List ℕ) (n m w : ℕ) : Type 0 where
   pub long : length words ≡ 50

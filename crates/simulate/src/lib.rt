@@ -10,7 +10,7 @@ ghost use Rattle.network.specs.Net.{entry};
 ghost use Rattle.network.specs.DontCares.{runInverted};
 ghost use Rattle.network.specs.Flat.{gateAt, gatesOf};
 ghost use Rattle.network.specs.Valid.{GateOk, NetOk};
-ghost use Rattle.simulate.specs.Simulated.{Simulated, wordsAt, valueAt, Rows, Masked, Inverted};
+ghost use Rattle.simulate.specs.Simulated.{Inputs, Simulated, wordsAt, valueAt, Rows, Masked, Inverted};
 
 // The word of the signal that stands at place p of the fan-ins.
 fn signal(fanins: &[u8; 240], words: &[u64; 50], p: usize) -> u64
@@ -55,6 +55,20 @@ pub fn gate_word(
     bits::lut(k, tables[g], &ins)
 }
 
+// The words of the n inputs at the patterns 64 * w + b.
+fn input_words(n: usize, w: u64) -> [u64; 50]
+    requires { ⌜ n ≤ 10 ⌝ }
+    ensures { λ r. ⌜ (length r ≡ 50) × Inputs r n w ⌝ }
+{
+    let mut words = [0u64; 50];
+    let mut i = 0;
+    while i < n {
+        words[i] = bits::input_word(i, w);
+        i += 1;
+    }
+    words
+}
+
 // The words of all signals at the patterns 64 * w + b: the inputs', then the gates'.
 pub fn words(
     n: usize,
@@ -67,12 +81,7 @@ pub fn words(
     requires { ⌜ NetOk (now arity) (now fanins) n m ⌝ }
     ensures { λ r. ⌜ Simulated (now (arity .entry)) (now (fanins .entry)) (now (tables .entry)) r n m w ⌝ }
 {
-    let mut words = [0u64; 50];
-    let mut i = 0;
-    while i < n {
-        words[i] = bits::input_word(i, w);
-        i += 1;
-    }
+    let mut words = input_words(n, w);
     let mut g = 0;
     while g < m {
         let v = gate_word(arity, fanins, tables, &words, g);
@@ -242,6 +251,21 @@ fn store_row(rows: &mut [u64; 800], s: usize, row: &[u64; 16], count: usize)
     }
 }
 
+// The rows of the n inputs.
+fn input_rows(n: usize, count: usize) -> [u64; 800]
+    requires { ⌜ (n ≤ 10) × (count ≤ 16) ⌝ }
+    ensures { λ r. ⌜ (length r ≡ 800) × ((w : ℕ) → w < count → Inputs (wordsAt r w) n w) ⌝ }
+{
+    let mut rows = [0u64; 800];
+    let mut i = 0;
+    while i < n {
+        let row = input_row(i, count);
+        store_row(&mut rows, i, &row, count);
+        i += 1;
+    }
+    rows
+}
+
 // The rows of all signals: the inputs', then the gates'.
 pub fn rows(
     n: usize,
@@ -255,13 +279,7 @@ pub fn rows(
     requires { ⌜ count ≤ 16 ⌝ }
     ensures { λ r. ⌜ (length r ≡ 800) × Rows (now (arity .entry)) (now (fanins .entry)) (now (tables .entry)) r n m count ⌝ }
 {
-    let mut rows = [0u64; 800];
-    let mut i = 0;
-    while i < n {
-        let row = input_row(i, count);
-        store_row(&mut rows, i, &row, count);
-        i += 1;
-    }
+    let mut rows = input_rows(n, count);
     let mut g = 0;
     while g < m {
         let row = gate_row(arity, fanins, tables, &rows, count, g);

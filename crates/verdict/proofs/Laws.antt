@@ -18,9 +18,7 @@ use Rattle.bits.proofs.BitLaws.{bit-and, bit-or, bit-xor, bit-zero}
 use Rattle.bits.proofs.Logic.{clash, and-not}
 use Rattle.bits.proofs.Ranges.{iff, and-assoc, any-i, length-places, places-at, column-at}
 use Rattle.network.specs.declared.Session.{Session}
-use Rattle.network.specs.declared.Answer.{Answer}
-use Rattle.network.specs.declared.Answer.the-variants.{Done, Refused}
-use Rattle.network.specs.declared.Refusal.{Refusal}
+use Rattle.network.specs.declared.Answer.the-variants.{Done}
 use Rattle.network.specs.Net.{Gate, Net, withTable, withGates, noGate, values, output, excluded, excludedFor, patternOrder, replaced}
 use Rattle.network.specs.Flat.{gateAt, gatesOf, netOf, netWith, loadedNet, currentNet}
 use Rattle.network.specs.Valid.{NetOk, OutputsOk}
@@ -31,8 +29,8 @@ use Rattle.network.proofs.Laws.{length-gates}
 use Rattle.network.proofs.Valid.{net-ok, outputs-ok}
 use Rattle.network.proofs.Earlier.{gates-at}
 use Rattle.simulate.specs.Simulated.{Simulated}
-use Rattle.verdict.specs.Changed.{changedWord, changedAt, alteredAt, wordHarm}
-use Rattle.verdict.proofs.Turns.{search-ext, search-none, below, left, words-start, words-found, words-next}
+use Rattle.verdict.specs.Changed.{changedWord, changedAt, wordHarm}
+use Rattle.verdict.proofs.Turns.{search-ext, search-none, below, left, words-start}
 
 -- ## One word
 
@@ -44,20 +42,20 @@ changes-step f acc v i so-far e b = rw add-one (bit-or acc v b ∙ ap₂ (λ (x 
 back : (base e : ℕ) → base + e - base ≡ e
 back base e = omega arith
 
-module _ (outs xs ys : List ℕ) (p keep : ℕ) where
+module _ (outs xs ys : List ℕ) (p keep w : ℕ) where
   -- no output changes at a pattern of keep's
-  pub no-change : (base d : ℕ) → ((b : ℕ) → bit d b ≡ any p (λ i. bit (changedWord outs xs ys i) b)) → bitAnd keep d ≡ 0
-      → Done ≡ wordHarm (changedAt outs xs ys keep base) p base
+  pub no-change : (d : ℕ) → ((b : ℕ) → bit d b ≡ any p (λ i. bit (changedWord outs xs ys i) b)) → bitAnd keep d ≡ 0
+      → Done ≡ wordHarm (changedAt outs xs ys keep w) p w
   unfolding wordHarm changedAt
-  no-change base d told e =
-      sym (search-none (changedAt outs xs ys keep base) p base 64 (λ b l i m.
-      rw (back base b, bit-and) (and-not (bit keep b) (bit (changedWord outs xs ys i) b) (λ k c. clash
+  no-change d told e =
+      sym (search-none (changedAt outs xs ys keep w) p (w * 64) 64 (λ b l i m.
+      rw (back (w * 64) b, bit-and) (and-not (bit keep b) (bit (changedWord outs xs ys i) b) (λ k c. clash
       (rw (k, told b) (any-i p (λ i. bit (changedWord outs xs ys i) b) i m c)) (sym (bit-and keep d b) ∙ ap (λ (x : ℕ). bit x b) e ∙ bit-zero b)))))
 
--- a word that keeps nothing
-pub no-keep : (L M : Net) (p base keep : ℕ) → keep ≡ 0 → Done ≡ wordHarm (alteredAt L M keep base) p base
-unfolding wordHarm alteredAt
-no-keep L M p base keep e = sym (search-none (alteredAt L M keep base) p base 64 (λ b l i m. rw (e, bit-zero)))
+  -- a word that keeps nothing
+  pub no-keep : keep ≡ 0 → Done ≡ wordHarm (changedAt outs xs ys keep w) p w
+  unfolding wordHarm changedAt
+  no-keep e = sym (search-none (changedAt outs xs ys keep w) p (w * 64) 64 (λ b l i m. rw (e, bit-and, bit-zero)))
 
 differs-beq : (a b : Bool) → differs a b ≡ not (Bool·beq a b)
 differs-beq true true = refl
@@ -68,14 +66,14 @@ differs-beq false false = refl
 -- the places that are kept are the patterns that are not excluded
 kept : (ex : List ℕ) (n W c live inv w b : ℕ) → Cut n W c → ((b : ℕ) → bit live b ≡ ltb b c) → ((b : ℕ) → b < 64 → bit inv b ≡ not (bit (getD ex w 0) b))
     → w < W → b < 64 → (d : Bool)
-    → bit (bitAnd live inv) (w * 64 + b - w * 64) && d ≡ ltb (w * 64 + b) (2 ^ n) && (not (bit (getD ex ((w * 64 + b) / 64) 0) ((w * 64 + b) % 64)) && d)
+    → bit (bitAnd live inv) b && d ≡ ltb (w * 64 + b) (2 ^ n) && (not (bit (getD ex ((w * 64 + b) / 64) 0) ((w * 64 + b) % 64)) && d)
 kept ex n W c live inv w b cut live-at inv-at lw l d =
     let word : (w * 64 + b) / 64 ≡ w = omega arith in
     let place : (w * 64 + b) % 64 ≡ b = omega arith in
     let inside : ltb (w * 64 + b) (2 ^ n) ≡ ltb b c = iff (ltb (w * 64 + b) (2 ^ n)) (ltb b c)
     (λ e. lt-ltb b c (rw place at (cut .place (w * 64 + b) (ltb-true (w * 64 + b) (2 ^ n) e))))
     (λ e. lt-ltb (w * 64 + b) (2 ^ n) (cut .pattern w b lw (ltb-true b c e))) in
-    rw (back (w * 64) b, bit-and, live-at b, inv-at b l, inside, word, place) (and-assoc (ltb b c) (not (bit (getD ex w 0) b)) d)
+    rw (bit-and, live-at b, inv-at b l, inside, word, place) (and-assoc (ltb b c) (not (bit (getD ex w 0) b)) d)
 
 module _ (ks fs ts : List ℕ) (n m : ℕ) (ex outs : List ℕ) (p : ℕ) where
   -- an output's word has its values
@@ -97,34 +95,26 @@ module _ (ks fs ls ts : List ℕ) (n m : ℕ) (ex outs : List ℕ) (p : ℕ) whe
   abbrev M : Net
   M = netOf ks fs ts n m ex outs p
 
-  pub word-altered : (xs ys : List ℕ) (w keep : ℕ) → Simulated ks fs ls xs n m w → Simulated ks fs ts ys n m w → OutputsOk outs p (n + m)
-      → wordHarm (changedAt outs xs ys keep (w * 64)) p (w * 64) ≡ wordHarm (alteredAt L M keep (w * 64)) p (w * 64)
-  unfolding wordHarm changedAt alteredAt
-  word-altered xs ys w keep sx sy ok =
-      search-ext (changedAt outs xs ys keep (w * 64)) (alteredAt L M keep (w * 64)) p (w * 64) 64 (λ b l i h.
-      rw (back (w * 64) b)
-      (bit-and keep (changedWord outs xs ys i) b
-      ∙ ap (λ (d : Bool). bit keep b && d)
-      (bit-xor (getD xs (getD outs i 0) 0) (getD ys (getD outs i 0) 0) b
-      ∙ ap₂ differs (output-word ks fs ls n m ex outs p xs w b i sx ok l h) (output-word ks fs ts n m ex outs p ys w b i sy ok l h)
-      ∙ differs-beq (output L (w * 64 + b) i) (output M (w * 64 + b) i))))
+  -- the tests of the search over all words
+  abbrev pub tests : ℕ → ℕ → Bool
+  tests = below (2 ^ n) (harms L M)
 
   -- word w of W, each with c places, where `live` has the places and `inv` the patterns that are not excluded
-  module _ (W c live inv w : ℕ) (cut : Cut n W c) (live-at : (b : ℕ) → bit live b ≡ ltb b c) (inv-at : (b : ℕ) → b < 64 → bit inv b ≡ not (bit (getD ex w 0) b)) (lw : w < W) where
-    word-harms : wordHarm (alteredAt L M (bitAnd live inv) (w * 64)) p (w * 64) ≡ wordHarm (below (2 ^ n) (harms L M)) p (w * 64)
-    unfolding wordHarm alteredAt harms excludedFor excluded netOf
-    word-harms =
-        search-ext (alteredAt L M (bitAnd live inv) (w * 64)) (below (2 ^ n) (harms L M)) p (w * 64) 64 (λ b l i h.
-        kept ex n W c live inv w b cut live-at inv-at lw l (not (Bool·beq (output L (w * 64 + b) i) (output M (w * 64 + b) i))))
+  pub word-harms : (xs ys : List ℕ) (W c live inv w : ℕ) → Cut n W c → ((b : ℕ) → bit live b ≡ ltb b c) → ((b : ℕ) → b < 64 → bit inv b ≡ not (bit (getD ex w 0) b))
+      → w < W → Simulated ks fs ls xs n m w → Simulated ks fs ts ys n m w → OutputsOk outs p (n + m)
+      → wordHarm (changedAt outs xs ys (bitAnd live inv) w) p w ≡ wordHarm tests p w
+  unfolding wordHarm changedAt harms excludedFor excluded netOf
+  word-harms xs ys W c live inv w cut live-at inv-at lw sx sy ok =
+      search-ext (changedAt outs xs ys (bitAnd live inv) w) tests p (w * 64) 64 (λ b l i h.
+      rw (back (w * 64) b)
+      (bit-and (bitAnd live inv) (changedWord outs xs ys i) b
+      ∙ ap (λ (d : Bool). bit (bitAnd live inv) b && d)
+      (bit-xor (getD xs (getD outs i 0) 0) (getD ys (getD outs i 0) 0) b
+      ∙ ap₂ differs (output-word ks fs ls n m ex outs p xs w b i sx ok l h) (output-word ks fs ts n m ex outs p ys w b i sy ok l h)
+      ∙ differs-beq (output L (w * 64 + b) i) (output M (w * 64 + b) i))
+      ∙ kept ex n W c live inv w b cut live-at inv-at lw l (not (Bool·beq (output L (w * 64 + b) i) (output M (w * 64 + b) i)))))
 
-    pub harm-found : (a : Answer) {f : Refusal} → a ≡ wordHarm (alteredAt L M (bitAnd live inv) (w * 64)) p (w * 64) → a ≡ Refused f → a ≡ left (below (2 ^ n) (harms L M)) p W w
-    harm-found a e d = words-found (below (2 ^ n) (harms L M)) p W w lw a (e ∙ word-harms) d
-
-    pub harm-next : (a : Answer) → a ≡ wordHarm (alteredAt L M (bitAnd live inv) (w * 64)) p (w * 64) → a ≡ Done
-        → left (below (2 ^ n) (harms L M)) p W (w + 1) ≡ left (below (2 ^ n) (harms L M)) p W w
-    harm-next a e d = words-next (below (2 ^ n) (harms L M)) p W w lw a (e ∙ word-harms) d
-
-  pub harm-start : (W c : ℕ) → Cut n W c → left (below (2 ^ n) (harms L M)) p W 0 ≡ harmTest L M
+  pub harm-start : (W c : ℕ) → Cut n W c → left tests p W 0 ≡ harmTest L M
   unfolding harmTest patternOrder netOf
   harm-start W c cut =
       words-start n W c (harms L M) p cut

@@ -29,9 +29,9 @@ none : (e n : ℕ) → n ≤ e → n - e ≡ 0
 none e n h = omega arith
 
 module _ (h : ℕ → ℕ → Bool) (p : ℕ) where
-  pub outer-start : (base : ℕ) → firstHarm h p (upFrom base (base + 64 - base)) ≡ wordHarm h p base
+  pub outer-start : (w : ℕ) → firstHarm h p (upFrom (w * 64) (w * 64 + 64 - w * 64)) ≡ wordHarm h p w
   unfolding wordHarm
-  outer-start base = let q : base + 64 - base ≡ 64 = omega arith in ap (λ (c : ℕ). firstHarm h p (upFrom base c)) q
+  outer-start w = let q : w * 64 + 64 - w * 64 ≡ 64 = omega arith in ap (λ (c : ℕ). firstHarm h p (upFrom (w * 64) c)) q
 
   pub outer-step : (x a : ℕ) → x < a → orElse (outputFound x (smallest p (h x))) (firstHarm h p (upFrom (x + 1) (a - (x + 1)))) ≡ firstHarm h p (upFrom x (a - x))
   outer-step x a l = rw (more x a l)
@@ -110,7 +110,7 @@ words-start n W L h p cut =
     last (Refused f) = refl
 
 module _ (h : ℕ → ℕ → Bool) (p W w : ℕ) where
-  words-step : w < W → orElse (wordHarm h p (w * 64)) (left h p W (w + 1)) ≡ left h p W w
+  words-step : w < W → orElse (wordHarm h p w) (left h p W (w + 1)) ≡ left h p W w
   unfolding wordHarm
   words-step l =
       let q : W * 64 - w * 64 ≡ 64 + (W * 64 - (w + 1) * 64) = omega arith in
@@ -118,10 +118,10 @@ module _ (h : ℕ → ℕ → Bool) (p W w : ℕ) where
       ap (λ (x : ℕ). orElse (firstHarm h p (upFrom (w * 64) 64)) (firstHarm h p (upFrom x (W * 64 - (w + 1) * 64)))) (sym s)
       ∙ sym (search-parts h p (w * 64) 64 (W * 64 - (w + 1) * 64)) ∙ ap (λ (c : ℕ). firstHarm h p (upFrom (w * 64) c)) (sym q)
 
-  pub words-found : w < W → (a : Answer) {f : Refusal} → a ≡ wordHarm h p (w * 64) → a ≡ Refused f → a ≡ left h p W w
+  pub words-found : w < W → (a : Answer) {f : Refusal} → a ≡ wordHarm h p w → a ≡ Refused f → a ≡ left h p W w
   words-found l a e d = d ∙ ap (λ (b : Answer). orElse b (left h p W (w + 1))) (sym d ∙ e) ∙ words-step l
 
-  pub words-next : w < W → (a : Answer) → a ≡ wordHarm h p (w * 64) → a ≡ Done → left h p W (w + 1) ≡ left h p W w
+  pub words-next : w < W → (a : Answer) → a ≡ wordHarm h p w → a ≡ Done → left h p W (w + 1) ≡ left h p W w
   words-next l a e d = ap (λ (b : Answer). orElse b (left h p W (w + 1))) (sym d ∙ e) ∙ words-step l
 
   pub words-done : W ≤ w → Done ≡ left h p W w

@@ -1,6 +1,6 @@
 // The harm that a lone replacement does: the first pattern, and there the lowest output, at which the loaded outputs change.
 ghost use mathlib.Core.Path.{_≡_};
-ghost use mathlib.Core.List.{List, [], _∷_};
+ghost use mathlib.Core.List.{[], _∷_};
 ghost use Prim.Native.Nat.{ℕ, _+_, _*_, _<_, _≤_};
 ghost use lib.ListN.{getD};
 ghost use Rattle.bits.specs.Range.{any};
@@ -11,70 +11,67 @@ ghost use Rattle.network.specs.Flat.{netOf, loadedNet, currentNet};
 ghost use Rattle.network.specs.Valid.{NetOk, OutputsOk};
 ghost use Rattle.network.specs.State.{stateFault};
 ghost use Rattle.network.specs.Calls.{harmTest};
-ghost use Rattle.verdict.specs.Changed.{changedWord, changedAt, alteredAt, wordHarm};
+ghost use Rattle.simulate.specs.Simulated.{wordsAt};
+ghost use Rattle.verdict.specs.Changed.{changedWord, changedAt, wordHarm};
 use network::Answer;
 use network::Refusal;
 use network::Session;
 
-// The places at which output i has another value in xs than in ys.
-fn changed(outs: &[u8; 8], xs: &[u64; 50], ys: &[u64; 50], i: usize) -> u64
-    requires { ⌜ (i < 8) × (getD (now outs) i 0 < 50) ⌝ }
-    ensures { λ r. ⌜ r ≡ changedWord (now (outs .entry)) (now (xs .entry)) (now (ys .entry)) i ⌝ }
+// Where output i has another value in word w of the rows xs than in ys.
+fn changed(outs: &[u8; 8], xs: &[u64; 800], ys: &[u64; 800], w: usize, i: usize) -> u64
+    requires { ⌜ (w < 16) × (i < 8) × (getD (now outs) i 0 < 50) ⌝ }
+    ensures { λ r. ⌜ r ≡ changedWord (now (outs .entry)) (wordsAt (now (xs .entry)) w) (wordsAt (now (ys .entry)) w) i ⌝ }
 {
     let s = network::place(outs[i]);
-    xs[s] ^ ys[s]
+    let at = 16 * s + w;
+    xs[at] ^ ys[at]
 }
 
-// The places at which some output changes.
-fn changes(p: usize, outs: &[u8; 8], xs: &[u64; 50], ys: &[u64; 50]) -> u64
+// The places of word w at which some output changes.
+fn changes(p: usize, outs: &[u8; 8], xs: &[u64; 800], ys: &[u64; 800], w: usize) -> u64
     requires { ⌜ OutputsOk (now outs) p 50 ⌝ }
-    ensures { λ r. ⌜ ((b : ℕ) → bit r b ≡ any p (λ i. bit (changedWord (now (outs .entry)) (now (xs .entry)) (now (ys .entry)) i) b)) ⌝ }
+    requires { ⌜ w < 16 ⌝ }
+    ensures { λ r. ⌜ ((b : ℕ) → bit r b ≡ any p (λ i. bit (changedWord (now (outs .entry)) (wordsAt (now (xs .entry)) w) (wordsAt (now (ys .entry)) w) i) b)) ⌝ }
 {
     let mut acc: u64 = 0;
     let mut i = 0;
     while i < p {
-        acc = acc | changed(outs, xs, ys, i);
+        acc = acc | changed(outs, xs, ys, w, i);
         i += 1;
     }
     acc
 }
 
-// Output i changes at the pattern x of the word that starts at `base`.
+// Output i changes at the pattern x of word w, which `keep` holds.
 fn changed_at(
     outs: &[u8; 8],
-    xs: &[u64; 50],
-    ys: &[u64; 50],
+    xs: &[u64; 800],
+    ys: &[u64; 800],
     keep: u64,
-    base: usize,
+    w: usize,
     x: usize,
     i: usize,
 ) -> bool
-    requires { ⌜ (i < 8) × (getD (now outs) i 0 < 50) × (base ≤ x) × (x < base + 64) ⌝ }
-    ensures { λ r. ⌜ r ≡ changedAt (now (outs .entry)) (now (xs .entry)) (now (ys .entry)) keep base x i ⌝ }
+    requires { ⌜ (w < 16) × (i < 8) × (getD (now outs) i 0 < 50) × (w * 64 ≤ x) × (x < w * 64 + 64) ⌝ }
+    ensures { λ r. ⌜ r ≡ changedAt (now (outs .entry)) (wordsAt (now (xs .entry)) w) (wordsAt (now (ys .entry)) w) keep w x i ⌝ }
 {
-    let d = changed(outs, xs, ys, i);
-    bits::bit_of(keep & d, (x - base) as u64)
+    let d = changed(outs, xs, ys, w, i);
+    bits::bit_of(keep & d, (x - w * 64) as u64)
 }
 
 // The first pattern of the word, and there the lowest output, at which an output changes: the search stops there.
-fn search(
-    p: usize,
-    outs: &[u8; 8],
-    xs: &[u64; 50],
-    ys: &[u64; 50],
-    keep: u64,
-    base: usize,
-) -> Answer
+fn search(p: usize, outs: &[u8; 8], xs: &[u64; 800], ys: &[u64; 800], keep: u64, w: usize) -> Answer
     requires { ⌜ OutputsOk (now outs) p 50 ⌝ }
-    requires { ⌜ base < 1024 ⌝ }
-    ensures { λ r. ⌜ r ≡ wordHarm (changedAt (now (outs .entry)) (now (xs .entry)) (now (ys .entry)) keep base) p base ⌝ }
+    requires { ⌜ w < 16 ⌝ }
+    ensures { λ r. ⌜ r ≡ wordHarm (changedAt (now (outs .entry)) (wordsAt (now (xs .entry)) w) (wordsAt (now (ys .entry)) w) keep w) p w ⌝ }
 {
+    let base = w * 64;
     let end = base + 64;
     let mut at_x = end;
     let mut at_i = p;
     'search: for x in base..end {
         for i in 0..p {
-            if changed_at(outs, xs, ys, keep, base, x, i) {
+            if changed_at(outs, xs, ys, keep, w, x, i) {
                 at_x = x;
                 at_i = i;
                 break 'search;
@@ -91,53 +88,30 @@ fn search(
     }
 }
 
-// The same where it is asked first, of the whole word, whether an output changes.
+// The same where it is asked first, of the whole word, whether an output changes. A word without a pattern to judge is skipped.
 fn compare(
     p: usize,
     outs: &[u8; 8],
-    xs: &[u64; 50],
-    ys: &[u64; 50],
-    keep: u64,
-    base: usize,
-) -> Answer
-    requires { ⌜ OutputsOk (now outs) p 50 ⌝ }
-    requires { ⌜ base < 1024 ⌝ }
-    ensures { λ r. ⌜ r ≡ wordHarm (changedAt (now (outs .entry)) (now (xs .entry)) (now (ys .entry)) keep base) p base ⌝ }
-{
-    let d = changes(p, outs, xs, ys);
-    if keep & d == 0 {
-        return Answer::Done;
-    }
-    search(p, outs, xs, ys, keep, base)
-}
-
-// The first harm at the patterns of word w that `keep` holds. A word that holds none is not simulated.
-fn word_harm(
-    n: usize,
-    m: usize,
-    p: usize,
-    arity: &[u8; 40],
-    fanins: &[u8; 240],
-    loaded: &[u64; 40],
-    tables: &[u64; 40],
-    outs: &[u8; 8],
+    xs: &[u64; 800],
+    ys: &[u64; 800],
     keep: u64,
     w: usize,
 ) -> Answer
-    requires { ⌜ NetOk (now arity) (now fanins) n m ⌝ }
-    requires { ⌜ OutputsOk (now outs) p (n + m) ⌝ }
+    requires { ⌜ OutputsOk (now outs) p 50 ⌝ }
     requires { ⌜ w < 16 ⌝ }
-    ensures { λ r. ⌜ ((ex : List ℕ) → r ≡ wordHarm (alteredAt (netOf (now (arity .entry)) (now (fanins .entry)) (now (loaded .entry)) n m ex (now (outs .entry)) p) (netOf (now (arity .entry)) (now (fanins .entry)) (now (tables .entry)) n m ex (now (outs .entry)) p) keep (w * 64)) p (w * 64)) ⌝ }
+    ensures { λ r. ⌜ r ≡ wordHarm (changedAt (now (outs .entry)) (wordsAt (now (xs .entry)) w) (wordsAt (now (ys .entry)) w) keep w) p w ⌝ }
 {
     if keep == 0 {
         return Answer::Done;
     }
-    let xs = simulate::words(n, m, arity, fanins, loaded, w as u64);
-    let ys = simulate::words(n, m, arity, fanins, tables, w as u64);
-    compare(p, outs, &xs, &ys, keep, w * 64)
+    let d = changes(p, outs, xs, ys, w);
+    if keep & d == 0 {
+        return Answer::Done;
+    }
+    search(p, outs, xs, ys, keep, w)
 }
 
-// The first harm over all words. Places past the last pattern and excluded patterns are not judged.
+// The first harm over all words, from the rows of both networks. Places past the last pattern and excluded patterns are not judged.
 fn network_harm(
     n: usize,
     m: usize,
@@ -156,10 +130,12 @@ fn network_harm(
     let z = bits::size(n);
     let words = z.words;
     let live = bits::mask(z.places);
+    let xs = simulate::rows(n, m, arity, fanins, loaded, words);
+    let ys = simulate::rows(n, m, arity, fanins, tables, words);
     let mut w = 0;
     while w < words {
         let keep = live & bits::invert(excluded[w]);
-        let a = word_harm(n, m, p, arity, fanins, loaded, tables, outs, keep, w);
+        let a = compare(p, outs, &xs, &ys, keep, w);
         if let Answer::Refused(_) = a {
             return a;
         }

@@ -1,121 +1,70 @@
 -- `simulate::rows` meets its contract. Assumes nothing.
 use borrow.Author.Needs.{needs}
-use mathlib.Core.Path.{_≡_, refl, subst}
-use Prim.Native.Nat.{ℕ, _+_, _-_, _*_, _≤_, _<_}
+use mathlib.Core.Path.{_≡_, subst}
+use Prim.Native.Nat.{ℕ, _+_, _-_, _≤_, _<_}
 use native.Mathlib.Omega.{arith}
-use lib.ListN.{length, getD, take}
+use lib.ListN.{length}
 use denote.Ref.{now}
-use Rattle.bits.specs.Range.{places}
-use Rattle.bits.specs.Bit.{bit, column}
-use Rattle.network.specs.Net.{run}
-use Rattle.network.specs.Flat.{gatesOf}
-use Rattle.simulate.specs.Simulated.{wordsAt}
-use Rattle.simulate.proofs.Laws.{later, input-step, gate-step, first-gates}
+use Rattle.simulate.specs.Simulated.{wordsAt, Rows}
+use Rattle.simulate.proofs.Laws.{later, no-gate, gate-step}
 use Rattle.simulate.proofs.RowLaws.{words-long}
 use Rattle.simulate.proofs.rows.Statement.{statement}
 use Rattle.simulate.proofs.rows.Tie as tie
 
 abbrev Inv-loop : tie.InvT-loop
-Inv-loop n m arity fanins tables count rows₀ i₀ rows i =
-    (i ≤ n) × (length rows ≡ 800) × ((w b : ℕ) → w < count → b < 64 → take i (column (wordsAt rows w) b) ≡ places i (bit (w * 64 + b)))
+Inv-loop n m arity fanins tables count rows₀ g₀ rows g = (g ≤ m) × (length rows ≡ 800) × Rows arity fanins tables rows n g count
 
 abbrev μ-loop : tie.MeasureT-loop
-μ-loop n m arity fanins tables count rows₀ i₀ rows i = n - i
+μ-loop n m arity fanins tables count rows₀ g₀ rows g = m - g
 
-abbrev Inv-loop2 : tie.InvT-loop2
-Inv-loop2 n m arity fanins tables count rows₀ i g₀ rows g =
-    (g ≤ m) × (length rows ≡ 800) × ((w b : ℕ) → w < count → b < 64 → take (n + g) (column (wordsAt rows w) b) ≡ run (places n (bit (w * 64 + b))) (gatesOf arity fanins tables g))
+room : (c : tie.In-loop Inv-loop μ-loop) → c .before .before .before .args .n + c .before .loop .g < 50
+room c = let s = c .before .before .before in omega (arith, s .pre .0 .ins, s .pre .0 .most)
 
-abbrev μ-loop2 : tie.MeasureT-loop2
-μ-loop2 n m arity fanins tables count rows₀ i g₀ rows g = m - g
+input-rows-requires : tie.Need-input-rows-requires Inv-loop μ-loop
+input-rows-requires c κs = (c .pre .0 .ins, c .pre .1)
 
-room : (c : tie.Start Inv-loop μ-loop Inv-loop2 μ-loop2) → (c .args .n ≤ 10) × (c .args .n + c .args .m ≤ 50)
-room c = (c .pre .0 .ins, omega (arith, c .pre .0 .ins, c .pre .0 .most))
+loop-holds : tie.Need-loop-holds Inv-loop μ-loop
+loop-holds c =
+    let r = c .input-rows in
+    (omega arith, r .ensures .0, λ w h. no-gate _ _ _ (wordsAt (r .result) w) _ _ (words-long (r .result) w) (r .ensures .1 w h))
 
-loop-holds : tie.Need-loop-holds Inv-loop μ-loop Inv-loop2 μ-loop2
-loop-holds c = (omega arith, refl, λ w b h k. refl)
-
-input-row-requires : tie.Need-input-row-requires Inv-loop μ-loop Inv-loop2 μ-loop2
-input-row-requires c κs = (omega (arith, room (c .before .before) .0), omega arith)
-
-store-row-requires : tie.Need-store-row-requires Inv-loop μ-loop Inv-loop2 μ-loop2
-store-row-requires c κs =
-    ((omega (arith, room (c .before .before .before .before .before) .0), omega arith), c .before .before .before .before .loop .inv .1)
-
-add-i : tie.Need-add-i Inv-loop μ-loop Inv-loop2 μ-loop2
-add-i c =
-    omega (arith, room (c .before .before .before .before .before .before) .0)
-
-loop-less : tie.Need-loop-less Inv-loop μ-loop Inv-loop2 μ-loop2
-loop-less c = search needs
-
-loop-again : tie.Need-loop-again Inv-loop μ-loop Inv-loop2 μ-loop2
-loop-again c =
-    let ir = c .before .before .before in
-    let l = ir .before .before in
-    let s = l .before in (
-      omega arith,
-      c .store-row .ensures .0,
-      λ w b hw hb. rw (c .store-row .ensures .1 w hw) (input-step (wordsAt (l .loop .rows) w) (l .loop .i) (w * 64 + b) (getD (ir .input-row .result) w 0) b
-          (omega (arith, words-long (l .loop .rows) w, room s .0)) (l .loop .inv .2 w b hw hb) (ir .input-row .ensures w b hw hb)),
-    )
-
-loop2-holds : tie.Need-loop2-holds Inv-loop μ-loop Inv-loop2 μ-loop2
-loop2-holds c =
-    let l = c .before in
-    let a = l .before .args in
-    let e : l .loop .i ≡ a .n = omega arith in (
-      omega arith,
-      l .loop .inv .1,
-      λ w b hw hb. first-gates (now (a .arity)) (now (a .fanins)) (now (a .tables)) (wordsAt (l .loop .rows) w) (a .n) (l .loop .i) (w * 64 + b) b e (l .loop .inv .2 w b hw hb),
-    )
-
-gate-row-requires : tie.Need-gate-row-requires Inv-loop μ-loop Inv-loop2 μ-loop2
+gate-row-requires : tie.Need-gate-row-requires Inv-loop μ-loop
 gate-row-requires c κs =
     let l = c .before .before in
-    let s = l .before .before .before in
-    ((omega (arith, s .pre .0 .most), omega arith), later (omega (arith, room s .1)) (s .pre .0 .gate (l .loop2 .g) (omega arith)))
+    let s = l .before .before in
+    ((omega (arith, s .pre .0 .most), s .pre .1), later (omega (arith, room (c .before))) (s .pre .0 .gate (l .loop .g) (c .before .loop-test .taken)))
 
-add-store-row : tie.Need-add-store-row Inv-loop μ-loop Inv-loop2 μ-loop2
-add-store-row c =
-    omega (arith, room (c .before .before .before .before .before .before .before) .1)
+add-store-row : tie.Need-add-store-row Inv-loop μ-loop
+add-store-row c = omega (arith, room (c .before .before .before))
 
-store-row-requires-2 : tie.Need-store-row-requires-2 Inv-loop μ-loop Inv-loop2 μ-loop2
-store-row-requires-2 c κs =
-    let l = c .before .before .before .before .before in
-    let s = l .before .before .before in
-    ((omega (arith, room s .1), omega arith), l .loop2 .inv .1)
+store-row-requires : tie.Need-store-row-requires Inv-loop μ-loop
+store-row-requires c κs =
+    let t = c .before .before .before .before in
+    ((room t, t .before .before .before .pre .1), t .before .loop .inv .1)
 
-add-g : tie.Need-add-g Inv-loop μ-loop Inv-loop2 μ-loop2
-add-g c =
-    omega (arith, room (c .before .before .before .before .before .before .before .before .before) .1)
+add-g : tie.Need-add-g Inv-loop μ-loop
+add-g c = omega (arith, room (c .before .before .before .before .before))
 
-loop2-less : tie.Need-loop2-less Inv-loop μ-loop Inv-loop2 μ-loop2
-loop2-less c = search needs
+loop-less : tie.Need-loop-less Inv-loop μ-loop
+loop-less c = search needs
 
-loop2-again : tie.Need-loop2-again Inv-loop μ-loop Inv-loop2 μ-loop2
-loop2-again c =
-    let gr = c .before .before .before in
-    let l = gr .before .before .before in
-    let s = l .before .before .before in
-    let a = s .args in (
+loop-again : tie.Need-loop-again Inv-loop μ-loop
+loop-again c =
+    let r = c .before .before .before in
+    let t = r .before .before in
+    let l = t .before .loop in
+    let s = t .before .before .before in (
       omega arith,
-      c .store-row2 .ensures .0,
-      λ w b hw hb. rw (c .store-row2 .ensures .1 w hw) (gate-step (now (a .arity)) (now (a .fanins)) (now (a .tables)) (wordsAt (l .loop2 .rows) w) (a .n) (l .loop2 .g) (w * 64 + b) (getD (gr .gate-row .result) w 0) b
-          (omega (arith, words-long (l .loop2 .rows) w, room s .1)) (s .pre .0 .gate (l .loop2 .g) (omega arith)) (l .loop2 .inv .2 w b hw hb) (gr .gate-row .ensures w b hw hb)),
+      c .store-row .ensures .0,
+      λ w h. rw (c .store-row .ensures .1 w h) (gate-step _ _ _ _ _ _ _ _ (room t) (s .pre .0 .gate (l .g) (t .loop-test .taken)) (l .inv .2 w h) (λ b k. r .gate-row .ensures w b h k)),
     )
 
-returns : tie.Need-returns Inv-loop μ-loop Inv-loop2 μ-loop2
+returns : tie.Need-returns Inv-loop μ-loop
 returns c =
-    let l = c .before in
-    let a = l .before .before .before .args in
-    let e : l .loop2 .g ≡ a .m = omega arith in (
-      l .loop2 .inv .1,
-      λ w hw. record {
-        long = words-long (l .loop2 .rows) w;
-        each = λ b hb. subst (λ (k : ℕ). take (a .n + k) (column (wordsAt (l .loop2 .rows) w) b) ≡ run (places (a .n) (bit (w * 64 + b))) (gatesOf (now (a .arity)) (now (a .fanins)) (now (a .tables)) k)) e (l .loop2 .inv .2 w b hw hb);
-      },
-    )
+    let l = c .before .loop in
+    let a = c .before .before .before .args in
+    let e : l .g ≡ a .m = omega arith in
+    (l .inv .1, subst (λ (k : ℕ). Rows (now (a .arity)) (now (a .fanins)) (now (a .tables)) (l .rows) (a .n) k (a .count)) e (l .inv .2))
 
 pub rows-spec : {M : Type 1} → statement M
 rows-spec =
@@ -123,19 +72,12 @@ rows-spec =
     (tie.spec
     Inv-loop
     μ-loop
-    Inv-loop2
-    μ-loop2
+    input-rows-requires
     loop-holds
-    input-row-requires
-    store-row-requires
-    add-i
-    loop-less
-    loop-again
-    loop2-holds
     gate-row-requires
     add-store-row
-    store-row-requires-2
+    store-row-requires
     add-g
-    loop2-less
-    loop2-again
+    loop-less
+    loop-again
     returns)

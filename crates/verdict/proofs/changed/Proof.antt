@@ -1,9 +1,6 @@
 -- The word of the output's signal is read in both. Assumes nothing.
-use mathlib.Core.Path.{ap}
-use Prim.Native.Nat.{ℕ}
-use lib.Bits.{bitXor}
-use lib.ListN.{getD}
 use borrow.Author.Needs.{needs}
+use Rattle.simulate.proofs.RowLaws.{words-at}
 use Rattle.verdict.proofs.changed.Statement.{statement}
 use Rattle.verdict.proofs.changed.Tie as tie
 
@@ -12,6 +9,12 @@ element-copy-out-place c = search needs
 
 place-requires : tie.Need-place-requires
 place-requires c κs = search needs
+
+mul-at : tie.Need-mul-at
+mul-at c = search needs
+
+add-at : tie.Need-add-at
+add-at c = search needs
 
 mul-result : tie.Need-mul-result
 mul-result c = search needs
@@ -27,8 +30,9 @@ element-copy-out-result-2 c = search needs
 
 returns : tie.Need-returns
 returns c =
-    let a = c .before .before .before .before .args in
-    ap (λ (s : ℕ). bitXor (getD (a .xs .now) s 0) (getD (a .ys .now) s 0)) (c .before .before .place .ensures)
+    let s = c .before .before .before .before in
+    let a = s .args in
+    rw (c .before .before .place .ensures, words-at (a .xs .now) (a .w) _ (s .pre .2), words-at (a .ys .now) (a .w) _ (s .pre .2))
 
 pub changed-spec : {M : Type 1} → statement M
 changed-spec =
@@ -36,6 +40,8 @@ changed-spec =
     (tie.spec
     element-copy-out-place
     place-requires
+    mul-at
+    add-at
     mul-result
     element-copy-out-result
     mul-result-2

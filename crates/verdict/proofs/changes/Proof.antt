@@ -6,23 +6,24 @@ use borrow.Author.Needs.{needs}
 use Rattle.bits.specs.Range.{any}
 use Rattle.bits.specs.Bit.{bit}
 use Rattle.bits.proofs.BitLaws.{bit-zero}
+use Rattle.simulate.specs.Simulated.{wordsAt}
 use Rattle.verdict.specs.Changed.{changedWord}
 use Rattle.verdict.proofs.Laws.{changes-step}
 use Rattle.verdict.proofs.changes.Statement.{statement}
 use Rattle.verdict.proofs.changes.Tie as tie
 
 abbrev Inv-loop : tie.InvT-loop
-Inv-loop p outs xs ys acc₀ i₀ acc i =
-    (i ≤ p) × ((b : ℕ) → bit acc b ≡ any i (λ i. bit (changedWord outs xs ys i) b))
+Inv-loop p outs xs ys w acc₀ i₀ acc i =
+    (i ≤ p) × ((b : ℕ) → bit acc b ≡ any i (λ i. bit (changedWord outs (wordsAt xs w) (wordsAt ys w) i) b))
 
 abbrev μ-loop : tie.MeasureT-loop
-μ-loop p outs xs ys acc₀ i₀ acc i = p - i
+μ-loop p outs xs ys w acc₀ i₀ acc i = p - i
 
 loop-holds : tie.Need-loop-holds Inv-loop μ-loop
 loop-holds c = (search needs, λ b. bit-zero b)
 
 changed-requires : tie.Need-changed-requires Inv-loop μ-loop
-changed-requires c κs = let s = c .before .before in (omega (arith, s .pre .most), s .pre .each _ (c .loop-test .taken))
+changed-requires c κs = let s = c .before .before in (s .pre .1, omega (arith, s .pre .0 .most), s .pre .0 .each _ (c .loop-test .taken))
 
 add-i : tie.Need-add-i Inv-loop μ-loop
 add-i c = search needs
@@ -34,14 +35,14 @@ loop-again : tie.Need-loop-again Inv-loop μ-loop
 loop-again c =
     let a = c .before .before .before .args in
     let l = c .before .before .loop in
-    (search needs, changes-step (changedWord (a .outs .now) (a .xs .now) (a .ys .now)) (l .acc) (c .changed .result) (l .i) (l .inv .1) (c .changed .ensures))
+    (search needs, changes-step (changedWord (a .outs .now) (wordsAt (a .xs .now) (a .w)) (wordsAt (a .ys .now) (a .w))) (l .acc) (c .changed .result) (l .i) (l .inv .1) (c .changed .ensures))
 
 returns : tie.Need-returns Inv-loop μ-loop
 returns c =
     let a = c .before .before .args in
     let l = c .before .loop in
     let e : l .i ≡ a .p = omega arith in
-    λ b. l .inv .1 b ∙ ap (λ (k : ℕ). any k (λ i. bit (changedWord (a .outs .now) (a .xs .now) (a .ys .now) i) b)) e
+    λ b. l .inv .1 b ∙ ap (λ (k : ℕ). any k (λ i. bit (changedWord (a .outs .now) (wordsAt (a .xs .now) (a .w)) (wordsAt (a .ys .now) (a .w)) i) b)) e
 
 pub changes-spec : {M : Type 1} → statement M
 changes-spec =

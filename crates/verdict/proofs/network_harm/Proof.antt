@@ -1,24 +1,24 @@
 -- What is left from word w on has the answer of the whole. Assumes nothing.
 use mathlib.Core.Path.{_≡_, _∙_}
-use Prim.Native.Nat.{_-_, _^_, _≤_}
+use Prim.Native.Nat.{_-_, _≤_}
 use native.Mathlib.Omega.{arith}
 use borrow.Author.Needs.{needs}
 use Rattle.network.specs.Flat.{netOf}
-use Rattle.network.specs.DontCares.{harms}
 use Rattle.network.specs.Calls.{harmTest}
-use Rattle.verdict.proofs.Turns.{below, left, words-done}
-use Rattle.verdict.proofs.Laws.{harm-start, harm-found, harm-next}
+use Rattle.verdict.specs.Changed.{wordHarm}
+use Rattle.verdict.proofs.Turns.{left, words-found, words-next, words-done}
+use Rattle.verdict.proofs.Laws.{outputs-fit, tests, word-harms, harm-start}
 use Rattle.verdict.proofs.network_harm.Statement.{statement}
 use Rattle.verdict.proofs.network_harm.Tie as tie
 
 abbrev Inv-loop : tie.InvT-loop
-Inv-loop n m p excluded arity fanins loaded tables outs words live w₀ w =
+Inv-loop n m p excluded arity fanins loaded tables outs words live xs ys w₀ w =
     let L = netOf arity fanins loaded n m excluded outs p in
     let M = netOf arity fanins tables n m excluded outs p in
-    (w ≤ words) × (left (below (2 ^ n) (harms L M)) p words w ≡ harmTest L M)
+    (w ≤ words) × (left (tests arity fanins loaded tables n m excluded outs p) p words w ≡ harmTest L M)
 
 abbrev μ-loop : tie.MeasureT-loop
-μ-loop n m p excluded arity fanins loaded tables outs words live w₀ w = words - w
+μ-loop n m p excluded arity fanins loaded tables outs words live xs ys w₀ w = words - w
 
 size-requires : tie.Need-size-requires Inv-loop μ-loop
 size-requires c κs = c .pre .0 .ins
@@ -26,41 +26,58 @@ size-requires c κs = c .pre .0 .ins
 mask-requires : tie.Need-mask-requires Inv-loop μ-loop
 mask-requires c κs = c .size .ensures .places
 
+rows-requires : tie.Need-rows-requires Inv-loop μ-loop
+rows-requires c κs = let size = c .before in (size .before .pre .0, size .size .ensures .words)
+
+rows-requires-2 : tie.Need-rows-requires-2 Inv-loop μ-loop
+rows-requires-2 c κs = let size = c .before .before in (size .before .pre .0, size .size .ensures .words)
+
 loop-holds : tie.Need-loop-holds Inv-loop μ-loop
 loop-holds c =
-    let a = c .before .before .args in
-    (omega arith, harm-start (a .arity .now) (a .fanins .now) (a .loaded .now) (a .tables .now) (a .n) (a .m) (a .excluded .now) (a .outs .now) (a .p) _ _ (c .before .size .ensures))
+    let size = c .before .before .before in
+    let a = size .before .args in
+    (omega arith, harm-start (a .arity .now) (a .fanins .now) (a .loaded .now) (a .tables .now) (a .n) (a .m) (a .excluded .now) (a .outs .now) (a .p) _ _ (size .size .ensures))
 
 mul-invert : tie.Need-mul-invert Inv-loop μ-loop
-mul-invert c = omega (arith, c .before .before .before .size .ensures .words)
+mul-invert c = omega (arith, c .before .before .before .before .before .size .ensures .words)
 
 element-copy-out-invert : tie.Need-element-copy-out-invert Inv-loop μ-loop
-element-copy-out-invert c = omega (arith, c .before .before .before .size .ensures .words)
+element-copy-out-invert c = omega (arith, c .before .before .before .before .before .size .ensures .words)
 
 invert-requires : tie.Need-invert-requires Inv-loop μ-loop
 invert-requires c κs = search needs
 
-word-harm-requires : tie.Need-word-harm-requires Inv-loop μ-loop
-word-harm-requires c κs =
-    let size = c .before .before .before .before .before in
+compare-requires : tie.Need-compare-requires Inv-loop μ-loop
+compare-requires c κs =
+    let size = c .before .before .before .before .before .before .before .before .before in
     let s = size .before in
-    (s .pre .0, (s .pre .1, omega (arith, size .size .ensures .words)))
+    (outputs-fit (s .pre .0) (s .pre .1), omega (arith, size .size .ensures .words))
+
+-- the answer of a word, by the tests of the whole search
+answer : (c : tie.After-compare Inv-loop μ-loop) →
+    let at = c .before .before .before .before .before .before in
+    let a = at .before .before .before .before .before .args in
+    c .compare .result ≡ wordHarm (tests (a .arity .now) (a .fanins .now) (a .loaded .now) (a .tables .now) (a .n) (a .m) (a .excluded .now) (a .outs .now) (a .p)) (a .p) (at .loop .w)
+answer c =
+    let inv = c .before .before .before in
+    let test = inv .before .before in
+    let ys = test .before .before in
+    let xs = ys .before in
+    let mask = xs .before in
+    let size = mask .before in
+    let s = size .before in
+    let a = s .args in
+    c .compare .ensures
+    ∙ word-harms (a .arity .now) (a .fanins .now) (a .loaded .now) (a .tables .now) (a .n) (a .m) (a .excluded .now) (a .outs .now) (a .p) _ _ _ _ _ _ _
+    (size .size .ensures) (mask .mask .ensures .1) (inv .invert .ensures) (test .loop-test .taken) (xs .rows .ensures .1 _ (test .loop-test .taken)) (ys .rows2 .ensures .1 _ (test .loop-test .taken)) (s .pre .1)
 
 enum-told : tie.Need-enum-told Inv-loop μ-loop
 enum-told c = search needs
 
 returns : tie.Need-returns Inv-loop μ-loop
 returns c =
-    let word = c .before .before in
-    let inv = word .before in
-    let test = inv .before .before in
-    let at = test .before in
-    let mask = at .before in
-    let size = mask .before in
-    let a = size .before .args in
-    harm-found (a .arity .now) (a .fanins .now) (a .loaded .now) (a .tables .now) (a .n) (a .m) (a .excluded .now) (a .outs .now) (a .p) _ _ _ _ _
-    (size .size .ensures) (mask .mask .ensures .1) (inv .invert .ensures) (test .loop-test .taken) _ (word .word-harm .ensures (a .excluded .now)) (c .enum-told .given .1)
-    ∙ at .loop .inv .1
+    let test = c .before .before .before .before .before .before .before in
+    words-found _ _ _ _ (test .loop-test .taken) _ (answer (c .before .before)) (c .enum-told .given .1) ∙ test .before .loop .inv .1
 
 enum-told-2 : tie.Need-enum-told-2 Inv-loop μ-loop
 enum-told-2 c = search needs
@@ -73,18 +90,8 @@ loop-less c = search needs
 
 loop-again : tie.Need-loop-again Inv-loop μ-loop
 loop-again c =
-    let word = c .before .before in
-    let inv = word .before in
-    let test = inv .before .before in
-    let at = test .before in
-    let mask = at .before in
-    let size = mask .before in
-    let a = size .before .args in (
-      search needs,
-      harm-next (a .arity .now) (a .fanins .now) (a .loaded .now) (a .tables .now) (a .n) (a .m) (a .excluded .now) (a .outs .now) (a .p) _ _ _ _ _
-          (size .size .ensures) (mask .mask .ensures .1) (inv .invert .ensures) (test .loop-test .taken) _ (word .word-harm .ensures (a .excluded .now)) (c .enum-told2 .given .1)
-          ∙ at .loop .inv .1,
-    )
+    let test = c .before .before .before .before .before .before .before in
+    (search needs, words-next _ _ _ _ (test .loop-test .taken) _ (answer (c .before .before)) (c .enum-told2 .given .1) ∙ test .before .loop .inv .1)
 
 returns-2 : tie.Need-returns-2 Inv-loop μ-loop
 returns-2 c = words-done _ _ _ _ (c .loop-test .left) ∙ c .before .loop .inv .1
@@ -97,11 +104,13 @@ network-harm-spec =
     μ-loop
     size-requires
     mask-requires
+    rows-requires
+    rows-requires-2
     loop-holds
     mul-invert
     element-copy-out-invert
     invert-requires
-    word-harm-requires
+    compare-requires
     enum-told
     returns
     enum-told-2

@@ -9,26 +9,30 @@ use borrow.Author.Needs.{needs}
 use Rattle.bits.specs.Range.{upFrom, firstIn}
 use Rattle.network.specs.Tests.{orElse}
 use Rattle.network.specs.Calls.{outputFound, firstHarm}
+use Rattle.simulate.specs.Simulated.{wordsAt}
 use Rattle.verdict.specs.Changed.{changedAt, wordHarm}
 use Rattle.verdict.proofs.Turns.{outer-start, outer-step, outer-done, inner-found, inner-next, inner-done}
 use Rattle.verdict.proofs.search.Statement.{statement}
 use Rattle.verdict.proofs.search.Tie as tie
 
 abbrev Inv-loop : tie.InvT-loop
-Inv-loop p outs xs ys keep base end at-x₀ at-i₀ x i₀ at-x at-i i =
-    let h = changedAt outs xs ys keep base in
-    (i ≤ p) × (at-x ≡ end) × (orElse (outputFound x (firstIn (h x) (upFrom i (p - i)))) (firstHarm h p (upFrom (x + 1) (end - (x + 1)))) ≡ wordHarm h p base)
+Inv-loop p outs xs ys keep w base end at-x₀ at-i₀ x i₀ at-x at-i i =
+    let h = changedAt outs (wordsAt xs w) (wordsAt ys w) keep w in
+    (i ≤ p) × (at-x ≡ end) × (orElse (outputFound x (firstIn (h x) (upFrom i (p - i)))) (firstHarm h p (upFrom (x + 1) (end - (x + 1)))) ≡ wordHarm h p w)
 
 abbrev μ-loop : tie.MeasureT-loop
-μ-loop p outs xs ys keep base end at-x₀ at-i₀ x i₀ at-x at-i i = p - i
+μ-loop p outs xs ys keep w base end at-x₀ at-i₀ x i₀ at-x at-i i = p - i
 
 abbrev Inv-search : tie.InvT-search
-Inv-search p outs xs ys keep base end at-x₀ at-i₀ x₀ at-x at-i x =
-    let h = changedAt outs xs ys keep base in
-    (base ≤ x) × (x ≤ end) × (at-x ≡ end) × (firstHarm h p (upFrom x (end - x)) ≡ wordHarm h p base)
+Inv-search p outs xs ys keep w base end at-x₀ at-i₀ x₀ at-x at-i x =
+    let h = changedAt outs (wordsAt xs w) (wordsAt ys w) keep w in
+    (base ≤ x) × (x ≤ end) × (at-x ≡ end) × (firstHarm h p (upFrom x (end - x)) ≡ wordHarm h p w)
 
 abbrev μ-search : tie.MeasureT-search
-μ-search p outs xs ys keep base end at-x₀ at-i₀ x₀ at-x at-i x = end - x
+μ-search p outs xs ys keep w base end at-x₀ at-i₀ x₀ at-x at-i x = end - x
+
+mul-base : tie.Need-mul-base Inv-loop μ-loop Inv-search μ-search
+mul-base c = search needs
 
 add-end : tie.Need-add-end Inv-loop μ-loop Inv-search μ-search
 add-end c = search needs
@@ -42,7 +46,7 @@ loop-holds c = (search needs, search needs, rw sub-zero (outer-step _ _ _ _ (c .
 changed-at-requires : tie.Need-changed-at-requires Inv-loop μ-loop Inv-search μ-search
 changed-at-requires c κs =
     let s = c .before .before .before .before in
-    (omega (arith, s .pre .0 .most), s .pre .0 .each _ (c .loop-test .taken), search needs, search needs)
+    (s .pre .1, omega (arith, s .pre .0 .most), s .pre .0 .each _ (c .loop-test .taken), search needs, search needs)
 
 add-i : tie.Need-add-i Inv-loop μ-loop Inv-search μ-search
 add-i c = search needs
@@ -88,6 +92,7 @@ search-spec =
     μ-loop
     Inv-search
     μ-search
+    mul-base
     add-end
     search-holds
     loop-holds
