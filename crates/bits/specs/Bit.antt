@@ -1,10 +1,10 @@
 -- The bits of a number, and numbers made of bits. A pattern, a table, a set of entries is a number read by its bits. Assumes nothing.
-use mathlib.Core.Bool.{Bool, true, false, not}
+use mathlib.Core.Bool.{Bool, true, false, not, _||_, Bool·beq}
 use mathlib.Core.List.{List, [], _∷_, map}
 use Prim.Native.Nat.{ℕ, _+_, _*_, _/_, _%_, _^_}
 use lib.Dec.{eqb}
 use lib.ListN.{getD}
-use Rattle.bits.specs.Range.{num, places}
+use Rattle.bits.specs.Range.{num, places, every}
 
 -- bit i of x
 unfoldable pub bit : ℕ → ℕ → Bool
@@ -36,3 +36,7 @@ column ws b = map (λ w. bit w b) ws
 -- the entry that the first k words pick at bit b
 abbrev pub entryAt : ℕ → List ℕ → ℕ → ℕ
 entryAt k ws b = tableOf k (λ r. bit (getD ws r 0) b)
+
+-- at bit b the first k words give the entry t, words that are free there aside
+abbrev pub gives : (k : ℕ) (words frees : List ℕ) (t b : ℕ) → Bool
+gives k ws fs t b = every k (λ r. bit (getD fs r 0) b || Bool·beq (bit (getD ws r 0) b) (bit t r))

@@ -2,12 +2,11 @@
 ghost use mathlib.Core.Path.{_≡_};
 ghost use mathlib.Core.List.{[], _∷_};
 ghost use Prim.Native.Nat.{ℕ, _+_, _-_, _*_, _^_, _<_, _≤_};
-ghost use lib.ListN.{getD};
 ghost use lib.Dec.{ltb};
-ghost use mathlib.Core.Bool.{true, false, not, Bool·beq};
+ghost use mathlib.Core.Bool.{true, false, not, _&&_, Bool·beq};
 ghost use Rattle.bits.specs.Cut.{Cut};
 ghost use Rattle.bits.specs.Range.{num, any, count};
-ghost use Rattle.bits.specs.Bit.{bit, choose, number, entryAt};
+ghost use Rattle.bits.specs.Bit.{bit, choose, number, entryAt, gives};
 
 // What a search finds.
 pub enum Found {
@@ -194,4 +193,20 @@ pub fn same(v: u64, x: bool) -> u64
         return v;
     }
     invert(v)
+}
+
+// The minterm word of entry t: the places of keep at which the first k words' bits give t, words that are free there aside.
+pub fn minterm(k: usize, ins: &[u64; 6], frees: &[u64; 6], keep: u64, t: u64) -> u64
+    requires { ⌜ k ≤ 6 ⌝ }
+    ensures { λ r. ⌜ ((b : ℕ) → b < 64 → bit r b ≡ (bit keep b && gives k (now (ins .entry)) (now (frees .entry)) t b)) ⌝ }
+{
+    let mut acc = keep;
+    let mut r = 0;
+    while r < k {
+        let x = bit_of(t, r as u64);
+        let s = same(ins[r], x);
+        acc = acc & (frees[r] | s);
+        r += 1;
+    }
+    acc
 }

@@ -15,8 +15,9 @@ use lib.Seq.{getD-set-same, getD-set-other}
 use borrow.Author.Tests.{eq-eqb, eqb-true, lt-ltb, le-ltb}
 use Rattle.bits.specs.Range.{_⇒_, every}
 use Rattle.bits.specs.Bit.{bit, differs, tableOf}
-use Rattle.bits.proofs.BitLaws.{bit-and, bit-or, bit-xor, bit-ext, bit-zero, bit-shr}
-use Rattle.bits.proofs.Ranges.{iff, and-assoc, every-e, every-i, lt-cases, table-ext, bit-table}
+use Rattle.bits.proofs.BitLaws.{bit-and, bit-xor, bit-ext, bit-zero, bit-shr}
+use Rattle.bits.proofs.Ranges.{iff, every-e, every-i, lt-cases, table-ext, bit-table}
+use Rattle.bits.proofs.Minterms.{and-more}
 use Rattle.network.specs.Net.{entry}
 use Rattle.network.specs.Compatible.{agree, constant, turns, freeFanins}
 use Rattle.network.specs.Flat.{gateAt}
@@ -44,13 +45,8 @@ module _ (k free t acc f same ins r : ℕ) (x : Bool) (u : ℕ)
     (filled : bit f u ≡ bit (free / 2 ^ r) 0) (value : x ≡ bit t r) (like : bit same u ≡ Bool·beq (bit ins u) x) (input : bit ins u ≡ bit (0 * 64 + u) r) where
   pub agree-step : bit (bitAnd acc (bitOr f same)) u ≡ (ltb u (2 ^ k) && every (r + 1) (agreeAt free t u))
   agree-step =
-      bit-and acc (bitOr f same) u
-      ∙ ap₂ (λ (a b : Bool). a && b) so-far
-      (bit-or f same u
-      ∙ ap₂ (λ (a b : Bool). a || b) (filled ∙ low-of free r)
-      (like ∙ ap₂ Bool·beq (input ∙ ap (λ (i : ℕ). bit i r) (zero-add u)) value ∙ beq-sym (bit u r) (bit t r)))
-      ∙ and-assoc (ltb u (2 ^ k)) (every r (agreeAt free t u)) (agreeAt free t u r)
-      ∙ rw add-one
+      and-more (agreeAt free t u) (ltb u (2 ^ k)) acc f same r u so-far
+      (ap₂ (λ (a b : Bool). a || b) (filled ∙ low-of free r) (like ∙ ap₂ Bool·beq (input ∙ ap (λ (i : ℕ). bit i r) (zero-add u)) value ∙ beq-sym (bit u r) (bit t r)))
     where
       zero-add : (u : ℕ) → 0 * 64 + u ≡ u
       zero-add u = omega arith

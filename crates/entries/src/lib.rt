@@ -2,28 +2,12 @@
 ghost use mathlib.Core.Path.{_≡_};
 ghost use mathlib.Core.Bool.{_&&_};
 ghost use mathlib.Core.List.{[], _∷_};
-ghost use Prim.Native.Nat.{ℕ, _^_, _<_, _≤_};
+ghost use Prim.Native.Nat.{_^_, _≤_};
 ghost use lib.Dec.{eqb};
 ghost use Rattle.bits.specs.Range.{any};
 ghost use Rattle.bits.specs.Bit.{bit, tableOf, entryAt};
 ghost use Rattle.network.specs.Compatible.{agree};
 ghost use Rattle.entries.specs.By.{met};
-
-// The places of keep at which the entry t agrees with the values ins, except at the fan-ins that are free there.
-pub fn agree_word(k: usize, ins: &[u64; 6], frees: &[u64; 6], keep: u64, t: u64) -> u64
-    requires { ⌜ k ≤ 6 ⌝ }
-    ensures { λ r. ⌜ ((b : ℕ) → b < 64 → bit r b ≡ (bit keep b && agree k (entryAt k (now (frees .entry)) b) (entryAt k (now (ins .entry)) b) t)) ⌝ }
-{
-    let mut acc = keep;
-    let mut r = 0;
-    while r < k {
-        let x = bits::bit_of(t, r as u64);
-        let s = bits::same(ins[r], x);
-        acc = acc & (frees[r] | s);
-        r += 1;
-    }
-    acc
-}
 
 // The entries that some place of keep delivers.
 pub fn reach(k: usize, ins: &[u64; 6], frees: &[u64; 6], keep: u64) -> u64
@@ -34,7 +18,7 @@ pub fn reach(k: usize, ins: &[u64; 6], frees: &[u64; 6], keep: u64) -> u64
     let mut acc: u64 = 0;
     let mut t: u64 = 0;
     while t < n {
-        let a = agree_word(k, ins, frees, keep, t);
+        let a = bits::minterm(k, ins, frees, keep, t);
         let b = bits::some(a);
         acc = bits::more(acc, t, b);
         t += 1;

@@ -1,16 +1,28 @@
 -- `entries::reach` meets its contract. Assumes nothing.
 use borrow.Author.Needs.{needs}
-use mathlib.Core.Path.{_≡_, refl, ap, _∙_}
-use mathlib.Core.Bool.{_&&_}
-use Prim.Native.Nat.{ℕ, _-_, _^_, _≤_}
+use mathlib.Core.Path.{_≡_, refl, sym, ap, ap₂, _∙_}
+use mathlib.Core.Bool.{Bool, _&&_, _||_, Bool·beq}
+use mathlib.Core.List.{List}
+use Prim.Native.Nat.{ℕ, _-_, _^_, _≤_, _<_}
 use native.Mathlib.Omega.{arith}
+use lib.ListN.{getD}
 use denote.Ref.{now}
 use Rattle.bits.specs.Range.{any}
-use Rattle.bits.specs.Bit.{bit, tableOf, entryAt}
-use Rattle.bits.proofs.Ranges.{table-room, table-step, entries-few, any-ext}
+use Rattle.bits.specs.Bit.{bit, tableOf, entryAt, gives}
+use Rattle.bits.proofs.Ranges.{table-room, table-step, entries-few, every-ext, any-ext, bit-table}
 use Rattle.network.specs.Compatible.{agree}
 use Rattle.entries.proofs.reach.Statement.{statement}
 use Rattle.entries.proofs.reach.Tie as tie
+
+-- some place of keep delivers t where its minterm word has a bit set
+delivered : (k : ℕ) (ins fr : List ℕ) (keep t w : ℕ) → ((b : ℕ) → b < 64 → bit w b ≡ (bit keep b && gives k ins fr t b))
+    → any 64 (bit w) ≡ any 64 (λ b. bit keep b && agree k (entryAt k fr b) (entryAt k ins b) t)
+unfolding agree
+delivered k ins fr keep t w at =
+    any-ext 64 (bit w) (λ b. bit keep b && agree k (entryAt k fr b) (entryAt k ins b) t)
+    (λ b hb. at b hb ∙ ap (λ (x : Bool). bit keep b && x)
+    (every-ext k (λ r. bit (getD fr r 0) b || Bool·beq (bit (getD ins r 0) b) (bit t r)) (λ r. bit (entryAt k fr b) r || Bool·beq (bit (entryAt k ins b) r) (bit t r))
+    (λ r h. ap₂ (λ (p q : Bool). p || Bool·beq q (bit t r)) (sym (bit-table k (λ r. bit (getD fr r 0) b) r h)) (sym (bit-table k (λ r. bit (getD ins r 0) b) r h)))))
 
 abbrev Inv-loop : tie.InvT-loop
 Inv-loop k ins frees keep n acc₀ t₀ acc t =
@@ -25,8 +37,8 @@ power-requires c κs = search needs
 loop-holds : tie.Need-loop-holds Inv-loop μ-loop
 loop-holds c = (omega arith, refl)
 
-agree-word-requires : tie.Need-agree-word-requires Inv-loop μ-loop
-agree-word-requires c κs = omega (arith, c .before .before .before .pre)
+minterm-requires : tie.Need-minterm-requires Inv-loop μ-loop
+minterm-requires c κs = omega (arith, c .before .before .before .pre)
 
 some-requires : tie.Need-some-requires Inv-loop μ-loop
 some-requires c κs = search needs
@@ -48,7 +60,7 @@ loop-again c =
     let l = c .before .before .before .before .loop in (
       omega arith,
       table-step (l .t) (λ t. any 64 (λ b. bit (s .keep) b && agree (s .k) (entryAt (s .k) (now (s .frees)) b) (entryAt (s .k) (now (s .ins)) b) t)) (l .acc) (l .inv .1) (c .before .some .result) (c .more .result)
-          (c .before .some .ensures ∙ any-ext 64 (bit (c .before .before .agree-word .result)) (λ b. bit (s .keep) b && agree (s .k) (entryAt (s .k) (now (s .frees)) b) (entryAt (s .k) (now (s .ins)) b) (l .t)) (c .before .before .agree-word .ensures)) (c .more .ensures),
+          (c .before .some .ensures ∙ delivered (s .k) (now (s .ins)) (now (s .frees)) (s .keep) (l .t) (c .before .before .minterm .result) (c .before .before .minterm .ensures)) (c .more .ensures),
     )
 
 returns : tie.Need-returns Inv-loop μ-loop
@@ -65,7 +77,7 @@ reach-spec =
     μ-loop
     power-requires
     loop-holds
-    agree-word-requires
+    minterm-requires
     some-requires
     more-requires
     add-t

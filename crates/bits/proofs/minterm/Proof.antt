@@ -1,19 +1,18 @@
--- `entries::agree_word` meets its contract. Assumes nothing.
+-- `bits::minterm` meets its contract. Assumes nothing.
 use borrow.Author.Needs.{needs}
 use mathlib.Core.Path.{_≡_, sym, ap, _∙_}
-use mathlib.Core.Bool.{Bool, _&&_}
+use mathlib.Core.Bool.{_&&_}
 use Prim.Native.Nat.{ℕ, _-_, _≤_, _<_}
 use native.Mathlib.Omega.{arith}
 use denote.Ref.{now}
-use Rattle.bits.specs.Range.{every}
-use Rattle.bits.specs.Bit.{bit}
+use Rattle.bits.specs.Bit.{bit, gives}
 use Rattle.bits.proofs.Ranges.{and-true}
-use Rattle.entries.proofs.Laws.{fanin, agree-step, agree-done}
-use Rattle.entries.proofs.agree_word.Statement.{statement}
-use Rattle.entries.proofs.agree_word.Tie as tie
+use Rattle.bits.proofs.Minterms.{gives-more}
+use Rattle.bits.proofs.minterm.Statement.{statement}
+use Rattle.bits.proofs.minterm.Tie as tie
 
 abbrev Inv-loop : tie.InvT-loop
-Inv-loop k ins frees keep t acc₀ r₀ acc r = (r ≤ k) × ((b : ℕ) → b < 64 → bit acc b ≡ (bit keep b && every r (fanin ins frees t b)))
+Inv-loop k ins frees keep t acc₀ r₀ acc r = (r ≤ k) × ((b : ℕ) → b < 64 → bit acc b ≡ (bit keep b && gives r ins frees t b))
 
 abbrev μ-loop : tie.MeasureT-loop
 μ-loop k ins frees keep t acc₀ r₀ acc r = k - r
@@ -52,7 +51,7 @@ loop-again c =
     let x = c .before .before .before .bit-of in
     let e = c .before .same in (
       omega arith,
-      λ b h. agree-step (now (s .ins)) (now (s .frees)) (s .t) b (l .acc) (s .keep) (l .r) (e .result) (x .result) (x .ensures) (e .ensures b h) (l .inv .1 b h),
+      λ b h. gives-more (now (s .ins)) (now (s .frees)) (s .t) b (l .acc) (s .keep) (l .r) (e .result) (x .result) (x .ensures) (e .ensures b h) (l .inv .1 b h),
     )
 
 returns : tie.Need-returns Inv-loop μ-loop
@@ -60,11 +59,10 @@ returns c b h =
     let s = c .before .before .args in
     let l = c .before .loop in
     let e : l .r ≡ s .k = omega arith in
-    l .inv .1 b h
-    ∙ ap (λ (x : Bool). bit (s .keep) b && x) (ap (λ (i : ℕ). every i (fanin (now (s .ins)) (now (s .frees)) (s .t) b)) e ∙ agree-done (now (s .ins)) (now (s .frees)) (s .t) b (s .k))
+    l .inv .1 b h ∙ ap (λ (i : ℕ). bit (s .keep) b && gives i (now (s .ins)) (now (s .frees)) (s .t) b) e
 
-pub agree-word-spec : {M : Type 1} → statement M
-agree-word-spec =
+pub minterm-spec : {M : Type 1} → statement M
+minterm-spec =
     tie.close
     (tie.spec
     Inv-loop
