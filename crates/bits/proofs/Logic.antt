@@ -29,6 +29,14 @@ pub beq-i : (a b : Bool) → a ≡ b → Bool·beq a b ≡ true
 beq-i true b e = rw (← e)
 beq-i false b e = rw (← e)
 
+pub beq-true : (a : Bool) → a ≡ Bool·beq a true
+beq-true true = refl
+beq-true false = refl
+
+pub beq-false : (a : Bool) → not a ≡ Bool·beq a false
+beq-false true = refl
+beq-false false = refl
+
 pub differs-e : (a b : Bool) → differs a b ≡ false → a ≡ b
 differs-e true true e = refl
 differs-e true false e = absurd (true≢false e)

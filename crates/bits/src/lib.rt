@@ -3,10 +3,11 @@ ghost use mathlib.Core.Path.{_≡_};
 ghost use mathlib.Core.List.{[], _∷_};
 ghost use Prim.Native.Nat.{ℕ, _+_, _-_, _*_, _^_, _<_, _≤_};
 ghost use lib.Dec.{ltb};
+ghost use lib.ListN.{getD};
 ghost use mathlib.Core.Bool.{true, false, not, _&&_, Bool·beq};
 ghost use Rattle.bits.specs.Cut.{Cut};
 ghost use Rattle.bits.specs.Range.{num, any, count};
-ghost use Rattle.bits.specs.Bit.{bit, choose, number, entryAt, gives};
+ghost use Rattle.bits.specs.Bit.{bit, choose, number, entryAt, gives, Split};
 
 // What a search finds.
 pub enum Found {
@@ -195,18 +196,34 @@ pub fn same(v: u64, x: bool) -> u64
     invert(v)
 }
 
-// The minterm word of entry t: the places of keep at which the first k words' bits give t, words that are free there aside.
-pub fn minterm(k: usize, ins: &[u64; 6], frees: &[u64; 6], keep: u64, t: u64) -> u64
-    requires { ⌜ k ≤ 6 ⌝ }
-    ensures { λ r. ⌜ ((b : ℕ) → b < 64 → bit r b ≡ (bit keep b && gives k (now (ins .entry)) (now (frees .entry)) t b)) ⌝ }
+// Each of the first size words in two: its part in lo at its place, its part in hi size places on.
+fn split(given: [u64; 16], size: usize, lo: u64, hi: u64) -> [u64; 16]
+    requires { ⌜ size ≤ 8 ⌝ }
+    ensures { λ l. ⌜ Split given l size lo hi size ⌝ }
 {
-    let mut acc = keep;
+    let mut words = given;
+    let mut t = 0;
+    while t < size {
+        words[size + t] = given[t] & hi;
+        words[t] = given[t] & lo;
+        t += 1;
+    }
+    words
+}
+
+// The minterm words of k fan-ins: word t has the places of keep at which the first k words' bits give entry t, words that are free there aside.
+pub fn minterms(k: usize, ins: &[u64; 6], frees: &[u64; 6], keep: u64) -> [u64; 16]
+    requires { ⌜ k ≤ 4 ⌝ }
+    ensures { λ r. ⌜ ((t : ℕ) → t < 2 ^ k → (b : ℕ) → b < 64 → bit (getD r t 0) b ≡ (bit keep b && gives k (now (ins .entry)) (now (frees .entry)) t b)) ⌝ }
+{
+    let mut words = [0u64; 16];
+    words[0] = keep;
     let mut r = 0;
     while r < k {
-        let x = bit_of(t, r as u64);
-        let s = same(ins[r], x);
-        acc = acc & (frees[r] | s);
+        let value = ins[r];
+        let free = frees[r];
+        words = split(words, 1 << r, free | invert(value), free | value);
         r += 1;
     }
-    acc
+    words
 }

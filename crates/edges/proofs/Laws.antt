@@ -17,7 +17,7 @@ use Rattle.bits.specs.Range.{_⇒_, every}
 use Rattle.bits.specs.Bit.{bit, differs, tableOf}
 use Rattle.bits.proofs.BitLaws.{bit-and, bit-xor, bit-ext, bit-zero, bit-shr}
 use Rattle.bits.proofs.Ranges.{iff, every-e, every-i, lt-cases, table-ext, bit-table}
-use Rattle.bits.proofs.Minterms.{and-more}
+use Rattle.bits.proofs.MintermLaws.{and-more}
 use Rattle.network.specs.Net.{entry}
 use Rattle.network.specs.Compatible.{agree, constant, turns, freeFanins}
 use Rattle.network.specs.Flat.{gateAt}

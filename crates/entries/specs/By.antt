@@ -1,14 +1,8 @@
 -- Tables of the entries that words of patterns deliver. Assumes nothing.
 use mathlib.Core.Bool.{Bool, _&&_}
-use mathlib.Core.List.{List}
-use Prim.Native.Nat.{ℕ, _+_, _*_, _^_}
-use lib.Dec.{eqb}
+use Prim.Native.Nat.{ℕ, _+_, _*_}
 use Rattle.bits.specs.Range.{any}
-use Rattle.bits.specs.Bit.{bit, number, tableOf}
-
--- of k fan-ins that have the values vs b at place b: the entries that the places of keep deliver
-unfoldable pub met : ℕ → (ℕ → List Bool) → ℕ → ℕ
-met k vs keep = tableOf (2 ^ k) (λ t. any 64 (λ b. bit keep b && eqb (number (vs b)) t))
+use Rattle.bits.specs.Bit.{bit, tableOf}
 
 -- the entries t below K at which the test q t holds of some live pattern of the first w words
 abbrev pub tableBy : (K live w : ℕ) (q : ℕ → ℕ → Bool) → ℕ

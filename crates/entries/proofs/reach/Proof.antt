@@ -1,86 +1,62 @@
 -- `entries::reach` meets its contract. Assumes nothing.
 use borrow.Author.Needs.{needs}
-use mathlib.Core.Path.{_≡_, refl, sym, ap, ap₂, _∙_}
-use mathlib.Core.Bool.{Bool, _&&_, _||_, Bool·beq}
-use mathlib.Core.List.{List}
-use Prim.Native.Nat.{ℕ, _-_, _^_, _≤_, _<_}
 use native.Mathlib.Omega.{arith}
-use lib.ListN.{getD}
 use denote.Ref.{now}
-use Rattle.bits.specs.Range.{any}
-use Rattle.bits.specs.Bit.{bit, tableOf, entryAt, gives}
-use Rattle.bits.proofs.Ranges.{table-room, table-step, entries-few, every-ext, any-ext, bit-table}
-use Rattle.network.specs.Compatible.{agree}
+use Rattle.entries.proofs.Laws.{by-agreement}
 use Rattle.entries.proofs.reach.Statement.{statement}
 use Rattle.entries.proofs.reach.Tie as tie
 
--- some place of keep delivers t where its minterm word has a bit set
-delivered : (k : ℕ) (ins fr : List ℕ) (keep t w : ℕ) → ((b : ℕ) → b < 64 → bit w b ≡ (bit keep b && gives k ins fr t b))
-    → any 64 (bit w) ≡ any 64 (λ b. bit keep b && agree k (entryAt k fr b) (entryAt k ins b) t)
-unfolding agree
-delivered k ins fr keep t w at =
-    any-ext 64 (bit w) (λ b. bit keep b && agree k (entryAt k fr b) (entryAt k ins b) t)
-    (λ b hb. at b hb ∙ ap (λ (x : Bool). bit keep b && x)
-    (every-ext k (λ r. bit (getD fr r 0) b || Bool·beq (bit (getD ins r 0) b) (bit t r)) (λ r. bit (entryAt k fr b) r || Bool·beq (bit (entryAt k ins b) r) (bit t r))
-    (λ r h. ap₂ (λ (p q : Bool). p || Bool·beq q (bit t r)) (sym (bit-table k (λ r. bit (getD fr r 0) b) r h)) (sym (bit-table k (λ r. bit (getD ins r 0) b) r h)))))
+delivered-requires : tie.Need-delivered-requires
+delivered-requires c κs = search needs
 
-abbrev Inv-loop : tie.InvT-loop
-Inv-loop k ins frees keep n acc₀ t₀ acc t =
-    (t ≤ n) × (acc ≡ tableOf t (λ t. any 64 (λ b. bit keep b && agree k (entryAt k frees b) (entryAt k ins b) t)))
-
-abbrev μ-loop : tie.MeasureT-loop
-μ-loop k ins frees keep n acc₀ t₀ acc t = n - t
-
-power-requires : tie.Need-power-requires Inv-loop μ-loop
-power-requires c κs = search needs
-
-loop-holds : tie.Need-loop-holds Inv-loop μ-loop
-loop-holds c = (omega arith, refl)
-
-minterm-requires : tie.Need-minterm-requires Inv-loop μ-loop
-minterm-requires c κs = omega (arith, c .before .before .before .pre)
-
-some-requires : tie.Need-some-requires Inv-loop μ-loop
-some-requires c κs = search needs
-
-more-requires : tie.Need-more-requires Inv-loop μ-loop
-more-requires c κs =
-    let s = c .before .before .before .before .before in
-    table-room _ _ _ (c .before .before .before .loop .inv .1) (omega (arith, c .before .before .before .before .power .ensures, entries-few (s .args .k) (s .pre)))
-
-add-t : tie.Need-add-t Inv-loop μ-loop
-add-t c = search needs
-
-loop-less : tie.Need-loop-less Inv-loop μ-loop
-loop-less c = search needs
-
-loop-again : tie.Need-loop-again Inv-loop μ-loop
-loop-again c =
-    let s = c .before .before .before .before .before .before .args in
-    let l = c .before .before .before .before .loop in (
-      omega arith,
-      table-step (l .t) (λ t. any 64 (λ b. bit (s .keep) b && agree (s .k) (entryAt (s .k) (now (s .frees)) b) (entryAt (s .k) (now (s .ins)) b) t)) (l .acc) (l .inv .1) (c .before .some .result) (c .more .result)
-          (c .before .some .ensures ∙ delivered (s .k) (now (s .ins)) (now (s .frees)) (s .keep) (l .t) (c .before .before .minterm .result) (c .before .before .minterm .ensures)) (c .more .ensures),
-    )
-
-returns : tie.Need-returns Inv-loop μ-loop
+returns : tie.Need-returns
 returns c =
+    let s = c .before .before .args in
+    by-agreement (s .k) 0 (now (s .ins)) (now (s .frees)) (s .keep) (c .delivered .result) (omega arith) (c .delivered .ensures)
+
+delivered-requires-2 : tie.Need-delivered-requires-2
+delivered-requires-2 c κs = search needs
+
+returns-2 : tie.Need-returns-2
+returns-2 c =
     let s = c .before .before .before .args in
-    let e : c .before .loop .t ≡ 2 ^ s .k = omega (arith, c .before .before .power .ensures) in
-    c .before .loop .inv .1 ∙ ap (λ (n : ℕ). tableOf n (λ t. any 64 (λ b. bit (s .keep) b && agree (s .k) (entryAt (s .k) (now (s .frees)) b) (entryAt (s .k) (now (s .ins)) b) t))) e
+    by-agreement (s .k) 1 (now (s .ins)) (now (s .frees)) (s .keep) (c .delivered2 .result) (omega arith) (c .delivered2 .ensures)
+
+delivered-requires-3 : tie.Need-delivered-requires-3
+delivered-requires-3 c κs = search needs
+
+returns-3 : tie.Need-returns-3
+returns-3 c =
+    let s = c .before .before .before .before .args in
+    by-agreement (s .k) 2 (now (s .ins)) (now (s .frees)) (s .keep) (c .delivered3 .result) (omega arith) (c .delivered3 .ensures)
+
+delivered-requires-4 : tie.Need-delivered-requires-4
+delivered-requires-4 c κs = search needs
+
+returns-4 : tie.Need-returns-4
+returns-4 c =
+    let s = c .before .before .before .before .before .args in
+    by-agreement (s .k) 3 (now (s .ins)) (now (s .frees)) (s .keep) (c .delivered4 .result) (omega arith) (c .delivered4 .ensures)
+
+delivered-requires-5 : tie.Need-delivered-requires-5
+delivered-requires-5 c κs = search needs
+
+returns-5 : tie.Need-returns-5
+returns-5 c =
+    let s = c .before .before .before .before .before .args in
+    by-agreement (s .k) 4 (now (s .ins)) (now (s .frees)) (s .keep) (c .delivered5 .result) (omega arith) (c .delivered5 .ensures)
 
 pub reach-spec : {M : Type 1} → statement M
 reach-spec =
     tie.close
     (tie.spec
-    Inv-loop
-    μ-loop
-    power-requires
-    loop-holds
-    minterm-requires
-    some-requires
-    more-requires
-    add-t
-    loop-less
-    loop-again
-    returns)
+    delivered-requires
+    returns
+    delivered-requires-2
+    returns-2
+    delivered-requires-3
+    returns-3
+    delivered-requires-4
+    returns-4
+    delivered-requires-5
+    returns-5)

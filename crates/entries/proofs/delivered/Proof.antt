@@ -1,0 +1,90 @@
+-- `entries::delivered` meets its contract. Assumes nothing.
+use borrow.Author.Needs.{needs}
+use mathlib.Core.Path.{_≡_, refl, ap, _∙_}
+use mathlib.Core.Bool.{Bool, _&&_}
+use Prim.Native.Nat.{ℕ, _-_, _^_, _≤_, _<_}
+use native.Mathlib.Omega.{arith}
+use lib.ListN.{getD}
+use denote.Ref.{now}
+use Rattle.bits.specs.Range.{any}
+use Rattle.bits.specs.Bit.{bit, tableOf, gives}
+use Rattle.bits.proofs.Ranges.{table-room, table-step, any-ext}
+use Rattle.entries.proofs.delivered.Statement.{statement}
+use Rattle.entries.proofs.delivered.Tie as tie
+
+abbrev Inv-loop : tie.InvT-loop
+Inv-loop k ins frees keep n words acc₀ t₀ acc t = (t ≤ n) × (acc ≡ tableOf t (λ t. any 64 (λ b. bit keep b && gives k ins frees t b)))
+
+abbrev μ-loop : tie.MeasureT-loop
+μ-loop k ins frees keep n words acc₀ t₀ acc t = n - t
+
+entry-count-requires : tie.Need-entry-count-requires Inv-loop μ-loop
+entry-count-requires c κs = search needs
+
+cast-n : tie.Need-cast-n Inv-loop μ-loop
+cast-n c = search needs
+
+minterms-requires : tie.Need-minterms-requires Inv-loop μ-loop
+minterms-requires c κs = search needs
+
+loop-holds : tie.Need-loop-holds Inv-loop μ-loop
+loop-holds c = (omega arith, refl)
+
+mul-some : tie.Need-mul-some Inv-loop μ-loop
+mul-some c = search needs
+
+array-read-some : tie.Need-array-read-some Inv-loop μ-loop
+array-read-some c = search needs
+
+some-requires : tie.Need-some-requires Inv-loop μ-loop
+some-requires c κs = search needs
+
+more-requires : tie.Need-more-requires Inv-loop μ-loop
+more-requires c κs =
+    let e = c .before .before .before .before .entry-count .ensures in
+    table-room _ _ _ (c .before .before .loop .inv .1) (omega (arith, e .1))
+
+add-t : tie.Need-add-t Inv-loop μ-loop
+add-t c = search needs
+
+loop-less : tie.Need-loop-less Inv-loop μ-loop
+loop-less c = search needs
+
+loop-again : tie.Need-loop-again Inv-loop μ-loop
+loop-again c =
+    let s = c .before .before .before .before .before .before .args in
+    let m = c .before .before .before .before .minterms in
+    let l = c .before .before .before .loop in
+    let e = c .before .before .before .before .before .entry-count .ensures in
+    let h : l .t < 2 ^ s .k = omega (arith, e .0) in
+    let test : ℕ → ℕ → Bool = λ t b. bit (s .keep) b && gives (s .k) (now (s .ins)) (now (s .frees)) t b in (
+      omega arith,
+      table-step (l .t) (λ t. any 64 (test t)) (l .acc) (l .inv .1) (c .before .some .result) (c .more .result)
+          (c .before .some .ensures ∙ any-ext 64 (bit (getD (m .result) (l .t) 0)) (test (l .t)) (m .ensures (l .t) h)) (c .more .ensures),
+    )
+
+returns : tie.Need-returns Inv-loop μ-loop
+returns c =
+    let s = c .before .before .before .before .args in
+    let l = c .before .loop in
+    let e : l .t ≡ 2 ^ s .k = omega (arith, c .before .before .before .entry-count .ensures .0) in
+    l .inv .1 ∙ ap (λ (n : ℕ). tableOf n (λ t. any 64 (λ b. bit (s .keep) b && gives (s .k) (now (s .ins)) (now (s .frees)) t b))) e
+
+pub delivered-spec : {M : Type 1} → statement M
+delivered-spec =
+    tie.close
+    (tie.spec
+    Inv-loop
+    μ-loop
+    entry-count-requires
+    cast-n
+    minterms-requires
+    loop-holds
+    mul-some
+    array-read-some
+    some-requires
+    more-requires
+    add-t
+    loop-less
+    loop-again
+    returns)
