@@ -1,11 +1,17 @@
-//! Random networks over all bounds, and files damaged at each refusal, from a seed that is printed.
+//! Random networks over all bounds, from a seed that is printed.
 
 /// xorshift64*: small, and the same everywhere.
 pub struct Random(u64);
 
 impl Random {
-    pub fn new(seed: u64) -> Random {
-        Random(seed.wrapping_mul(0x9E37_79B9_7F4A_7C15) | 1)
+    /// The numbers of one case of a part.
+    pub fn new(seed: u64, part: &str, case: usize) -> Random {
+        let mut state = seed;
+        for x in part.bytes().map(u64::from).chain([case as u64]) {
+            state = (state ^ x).wrapping_mul(0x9E37_79B9_7F4A_7C15);
+            state ^= state >> 29;
+        }
+        Random(state | 1)
     }
 
     pub fn next(&mut self) -> u64 {
@@ -23,41 +29,44 @@ impl Random {
     pub fn chance(&mut self, one_in: usize) -> bool {
         self.within(1, one_in) == 1
     }
+
+    pub fn pick<'a, T>(&mut self, items: &'a [T]) -> &'a T {
+        &items[self.within(0, items.len() - 1)]
+    }
 }
 
-/// The bytes of a random network with n inputs and m gates.
-pub fn network(rng: &mut Random, n: usize, m: usize) -> Vec<u8> {
+/// The file of a random network: mostly small, and now and then at the bounds.
+pub fn network(rng: &mut Random, case: usize) -> Vec<u8> {
+    let (n, m) = match case % 50 {
+        0 => (10, 40),
+        1 => (10, rng.within(1, 40)),
+        2 => (9, rng.within(1, 30)),
+        3 => (8, rng.within(1, 40)),
+        4 | 5 => (rng.within(1, 7), 40),
+        6 | 7 => (rng.within(1, 10), 1),
+        _ => (rng.within(1, 7), rng.within(1, 12)),
+    };
+    network_of(rng, n, m)
+}
+
+/// The file of a random network with at most six inputs and twelve gates.
+pub fn small_network(rng: &mut Random) -> Vec<u8> {
+    let (n, m) = (rng.within(1, 6), rng.within(1, 12));
+    network_of(rng, n, m)
+}
+
+/// The file of a random network with n inputs and m gates.
+pub fn network_of(rng: &mut Random, n: usize, m: usize) -> Vec<u8> {
     let p = rng.within(1, 8);
-    let mut out = vec![0x4E, 0x49, n as u8, m as u8, p as u8];
-    excluded(rng, n, &mut out);
+    let mut file = vec![0x4E, 0x49, n as u8, m as u8, p as u8];
+    file.extend(excluded(rng, n));
+    let mut record = Vec::new();
     for g in 0..m {
-        let signals = n + g;
-        let k = rng.within(1, 4.min(signals));
-        let mut fanins: Vec<u8> = Vec::new();
-        while fanins.len() < k {
-            // late signals more often, so that networks are deep and gates hide each other
-            let low = if rng.chance(2) {
-                signals.saturating_sub(6)
-            } else {
-                0
-            };
-            let f = rng.within(low, signals - 1) as u8;
-            if !fanins.contains(&f) {
-                fanins.push(f);
-            }
+        // now and then the twin of the gate before, so that each hides the other
+        if g == 0 || !rng.chance(6) {
+            record = gate(rng, n + g);
         }
-        let mut table = rng.next() as u16;
-        match rng.within(0, 5) {
-            0 => table &= rng.next() as u16 & rng.next() as u16,
-            1 => table |= rng.next() as u16 | rng.next() as u16,
-            _ => {}
-        }
-        if k < 4 {
-            table &= (1 << (1 << k)) - 1;
-        }
-        out.extend([0x4E, 0x47, k as u8]);
-        out.extend(fanins);
-        out.extend(table.to_le_bytes());
+        file.extend(&record);
     }
     for _ in 0..p {
         let low = if rng.chance(4) {
@@ -65,18 +74,24 @@ pub fn network(rng: &mut Random, n: usize, m: usize) -> Vec<u8> {
         } else {
             (n + m).saturating_sub(p + 2)
         };
-        out.extend([0x4E, 0x4F, rng.within(low, n + m - 1) as u8]);
+        file.extend([0x4E, 0x4F, rng.within(low, n + m - 1) as u8]);
     }
-    out
+    file
 }
 
-/// No, an empty, a sparse, a dense or a full excluded set.
-fn excluded(rng: &mut Random, n: usize, out: &mut Vec<u8>) {
+/// The record of a gate with so many signals before it.
+fn gate(rng: &mut Random, signals: usize) -> Vec<u8> {
+    let fanins = fanins(rng, signals);
+    let table = table(rng, fanins.len()).to_le_bytes();
+    [&[0x4E, 0x47, fanins.len() as u8], &fanins[..], &table].concat()
+}
+
+/// No record, or one of an empty, a sparse, a dense or a full excluded set.
+fn excluded(rng: &mut Random, n: usize) -> Vec<u8> {
     let kind = rng.within(0, 5);
     if kind < 2 {
-        return;
+        return Vec::new();
     }
-    out.extend([0x4E, 0x58]);
     let mut set = vec![0u8; ((1 << n) / 8).max(1)];
     for x in 0..1usize << n {
         let one = match kind {
@@ -87,31 +102,43 @@ fn excluded(rng: &mut Random, n: usize, out: &mut Vec<u8>) {
         };
         set[x / 8] |= (one as u8) << (x % 8);
     }
-    out.extend(set);
+    [vec![0x4E, 0x58], set].concat()
 }
 
-/// A file with one thing wrong, or cut, or lengthened, or with a random byte changed.
-pub fn damaged(rng: &mut Random, file: &[u8]) -> Vec<u8> {
-    let mut out = file.to_vec();
-    match rng.within(0, 5) {
-        0 => out.truncate(rng.within(0, file.len() - 1)),
-        1 => out.push(rng.next() as u8),
-        2 => {
-            let at = rng.within(0, file.len() - 1);
-            out.remove(at);
-        }
-        3 => {
-            let at = rng.within(0, file.len());
-            out.insert(at, rng.next() as u8);
-        }
-        _ => {
-            let at = rng.within(0, file.len() - 1);
-            out[at] = if rng.chance(2) {
-                rng.next() as u8
-            } else {
-                out[at].wrapping_add(1)
-            };
+/// Fan-ins among the earlier signals; late ones more often, so that networks are deep and gates hide each other.
+fn fanins(rng: &mut Random, signals: usize) -> Vec<u8> {
+    let k = rng.within(1, 4.min(signals));
+    let mut fanins: Vec<u8> = Vec::new();
+    while fanins.len() < k {
+        let low = if rng.chance(2) {
+            signals.saturating_sub(6)
+        } else {
+            0
+        };
+        let f = rng.within(low, signals - 1) as u8;
+        if !fanins.contains(&f) {
+            fanins.push(f);
         }
     }
-    out
+    fanins
+}
+
+/// A table of k fan-ins: any, one with few or many ones, or one that does not depend on one of them.
+fn table(rng: &mut Random, k: usize) -> u16 {
+    let mut table = rng.next() as u16;
+    match rng.within(0, 6) {
+        0 => table &= (rng.next() & rng.next()) as u16,
+        1 => table |= (rng.next() | rng.next()) as u16,
+        2 => {
+            let r = rng.within(0, k - 1);
+            table = (0..16)
+                .filter(|t| table >> (t & !(1 << r)) & 1 == 1)
+                .fold(0, |set, t| set | 1 << t);
+        }
+        _ => {}
+    }
+    if k < 4 {
+        table &= (1 << (1 << k)) - 1;
+    }
+    table
 }

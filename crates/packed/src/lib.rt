@@ -34,7 +34,7 @@ fn lay_bytes(words: &mut [u64], at: usize, bytes: &[u8])
     }
 }
 
-fn lay_words(words: &mut [u64], at: usize, new: &[u64])
+pub fn lay_words(words: &mut [u64], at: usize, new: &[u64])
     requires { ⌜ Room (now words) at (now new) ⌝ }
     ensures { λ _. ⌜ now (words .exit) ≡ sets (now (words .entry)) at (now (new .entry)) ⌝ }
 {

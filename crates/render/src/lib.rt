@@ -210,7 +210,7 @@ fn columns_of(s: Session) -> Columns
 }
 
 // The refusal's number.
-fn number_of(r: Refusal) -> u64
+pub fn number_of(r: Refusal) -> u64
     ensures { λ k. ⌜ (k ≡ numberOf r) × (k ≤ 14) ⌝ }
 {
     match r {

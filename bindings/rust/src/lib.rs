@@ -1,0 +1,37 @@
+//! Don't-care tables of gate networks, verdicts on a lone replacement, and sessions of exchanges: safe calls of the
+//! static library that `include/tusqirma.h` describes, which also says what signals, patterns and tables are.
+//!
+//! A one in the excluded set means that the pattern **never** comes.
+//!
+//! May gates 1 and 2 of this network both be set to table 0? Both copy input 0, and gate 3 is their OR:
+//!
+//! ```text
+//! use tusqirma::{Refusal, Session};
+//!
+//! let mut session = Session::load(&file)?;
+//! session.verdict(2, 0)?;                        // harmless alone
+//! session.exchange(1, 0)?;                       // entry 1 of gate 1 is open
+//! let answer = session.exchange(2, 0);           // entry 1 of gate 2 is closed
+//! assert_eq!(answer, Err(Refusal::ClosedEntry { entry: 1 }));
+//! ```
+#![deny(unsafe_code, missing_docs)]
+
+#[allow(missing_docs)]
+pub mod raw;
+mod refusal;
+mod session;
+
+pub use refusal::Refusal;
+pub use session::{PatternSets, Session, Tables, SESSION_WORDS};
+
+/// Bytes of the longest listing.
+const MOST_TEXT: usize = 1042;
+
+/// The listing of a file; of one that would not load, the line `refused N`.
+pub fn listing(file: &[u8]) -> String {
+    let (mut text, mut length) = (vec![0; MOST_TEXT], [0; 1]);
+    let number = raw::listing(file, &mut text, &mut length);
+    assert_eq!(number, 0, "there is room for any listing");
+    text.truncate(length[0] as usize);
+    String::from_utf8(text).expect("a listing is ASCII")
+}

@@ -1,0 +1,104 @@
+//! What a call is refused with.
+
+use std::fmt;
+
+/// Why a call was refused. A refused call changes nothing.
+#[derive(Clone, Copy, Debug, PartialEq, Eq)]
+pub enum Refusal {
+    /// 1: bytes run out where a record is due or inside one.
+    Truncated,
+    /// 2: the mark is not due there.
+    UnexpectedMark,
+    /// 3: n, m, p or k outside its bounds.
+    OutOfBounds,
+    /// 4: a fan-in that is not an earlier signal.
+    FaninNotEarlier,
+    /// 5: a fan-in already listed in this gate.
+    FaninRepeated,
+    /// 6: a bit set at or past 2^k in a table, or 2^n in the excluded set.
+    BitPastEnd,
+    /// 7: an output signal not below n+m.
+    NotASignal,
+    /// 8: bytes after the last record.
+    TrailingBytes,
+    /// 9: a buffer shorter than the words or bytes needed. Only the calls in [`raw`](crate::raw) can meet it.
+    BufferTooShort,
+    /// 10: the session's words hold no network.
+    InvalidState,
+    /// 11: no gate has that signal number.
+    NotAGate,
+    /// 12: the table has a bit at or past 2^k.
+    TableTooWide,
+    /// 13: an exchange alters a closed entry of the loaded table.
+    ClosedEntry {
+        /// The smallest such entry.
+        entry: u64,
+    },
+    /// 14: a verdict finds that an output changes.
+    Harm {
+        /// The smallest pattern that changes one.
+        pattern: u64,
+        /// There, the lowest changed output number.
+        output: u64,
+    },
+}
+
+impl Refusal {
+    /// The refusal with this number, and the values that it names at the start of `out`. 0 is none.
+    pub(crate) fn of(number: u64, out: &[u64]) -> Result<(), Refusal> {
+        Err(match number {
+            0 => return Ok(()),
+            1 => Refusal::Truncated,
+            2 => Refusal::UnexpectedMark,
+            3 => Refusal::OutOfBounds,
+            4 => Refusal::FaninNotEarlier,
+            5 => Refusal::FaninRepeated,
+            6 => Refusal::BitPastEnd,
+            7 => Refusal::NotASignal,
+            8 => Refusal::TrailingBytes,
+            9 => Refusal::BufferTooShort,
+            10 => Refusal::InvalidState,
+            11 => Refusal::NotAGate,
+            12 => Refusal::TableTooWide,
+            13 => Refusal::ClosedEntry { entry: out[0] },
+            14 => Refusal::Harm {
+                pattern: out[0],
+                output: out[1],
+            },
+            other => unreachable!("no call returns {other}"),
+        })
+    }
+
+    /// 1 to 14.
+    pub fn number(&self) -> u64 {
+        match self {
+            Refusal::Truncated => 1,
+            Refusal::UnexpectedMark => 2,
+            Refusal::OutOfBounds => 3,
+            Refusal::FaninNotEarlier => 4,
+            Refusal::FaninRepeated => 5,
+            Refusal::BitPastEnd => 6,
+            Refusal::NotASignal => 7,
+            Refusal::TrailingBytes => 8,
+            Refusal::BufferTooShort => 9,
+            Refusal::InvalidState => 10,
+            Refusal::NotAGate => 11,
+            Refusal::TableTooWide => 12,
+            Refusal::ClosedEntry { .. } => 13,
+            Refusal::Harm { .. } => 14,
+        }
+    }
+}
+
+impl fmt::Display for Refusal {
+    fn fmt(&self, f: &mut fmt::Formatter<'_>) -> fmt::Result {
+        write!(f, "refused {}", self.number())?;
+        match self {
+            Refusal::ClosedEntry { entry } => write!(f, ": entry {entry}"),
+            Refusal::Harm { pattern, output } => write!(f, ": pattern {pattern}, output {output}"),
+            _ => Ok(()),
+        }
+    }
+}
+
+impl std::error::Error for Refusal {}

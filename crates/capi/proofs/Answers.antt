@@ -1,0 +1,218 @@
+-- What a call leaves by the engine's answer to it. Assumes nothing.
+use mathlib.Core.Path.{_≡_, refl, sym, ap, _∙_}
+use mathlib.Core.Bool.{cond}
+use mathlib.Core.List.{List, [], _∷_}
+use Prim.Native.Nat.{ℕ, _+_, _*_, _-_, _≤_, _<_}
+use native.Mathlib.Numerals.{add-one}
+use native.Mathlib.Nat.{zero-add}
+use native.Mathlib.Omega.{arith}
+use lib.Dec.{ltb}
+use lib.ListN.{length, getD, take}
+use lib.Seq.{sets}
+use borrow.Author.Tests.{lt-ltb}
+use Rattle.bits.specs.Range.{places}
+use Rattle.bits.proofs.Ranges.{length-places, places-at, places-ext}
+use Rattle.network.specs.declared.Session.{Session}
+use Rattle.network.specs.declared.Loaded.{Loaded}
+use Rattle.network.specs.declared.Exchanged.{Exchanged}
+use Rattle.network.specs.declared.Counts.{Counts}
+use Rattle.network.specs.declared.Tables.{Tables}
+use Rattle.network.specs.declared.TablesAnswer.{TablesAnswer}
+use Rattle.network.specs.declared.TablesAnswer.the-variants as tables
+use Rattle.network.specs.declared.WriteAnswer.{WriteAnswer}
+use Rattle.network.specs.declared.WriteAnswer.the-variants as write
+use Rattle.network.specs.declared.Refusal.{Refusal}
+use Rattle.network.specs.declared.Answer.{Answer}
+use Rattle.network.specs.declared.Answer.the-variants.{Done, Refused}
+use Rattle.network.specs.Net.{Replacement}
+use Rattle.network.specs.DontCares.{sdc}
+use Rattle.network.specs.Compatible.{compatibleCount}
+use Rattle.network.specs.Flat.{loadedNet, currentNet}
+use Rattle.network.specs.Refusals.{numberOf, valuesOf}
+use Rattle.network.specs.Tests.{first}
+use Rattle.network.specs.State.{stateTest}
+use Rattle.network.specs.Load.{loadOf}
+use Rattle.network.specs.Calls.{gateTest, stored, exchangeAnswer, exchanged, exchangeOf, verdictOf, gateTables, givenTables, tablesOf, roomTest, overwritten, filled, writeAnswer, countsOf}
+use Rattle.network.proofs.TestLaws.{refused-done, count-e}
+use Rattle.network.proofs.Valid.{valid-e, state-e}
+use Rattle.netwrite.specs.Laid.{Laid}
+use Rattle.netwrite.proofs.Laws.{laid-append, laid-length, laid-start, part-places}
+use Rattle.dontcares.specs.Framed.{Tabled}
+use Rattle.engine.proofs.Judged.{alone, counts-done}
+use Rattle.packed.specs.Packed.{packedOf, sessionWords}
+use Rattle.capi.specs.Boundary.{Left, left, loadAnswer, loadCall, tableWords, tablesWork, allTableWords, verdictWork, exchangeWork}
+use Rattle.capi.proofs.Names.{Names, names-first, names-room, names-state, names-gate}
+use Rattle.capi.proofs.Laws.{Leaves, told, refused, done, worked}
+
+-- ## Load
+
+module _ (file session : List ℕ) {l : Loaded} {a : Answer} (e : l ≡ loadOf file) (f : a ≡ first (l .answer ∷ roomTest sessionWords session ∷ [])) where
+  load-answer : a ≡ loadAnswer file session
+  load-answer = f ∙ ap (λ (x : Loaded). first (x .answer ∷ roomTest sessionWords session ∷ [])) e
+
+  pub load-refused : {r : Refusal} {k : ℕ} → a ≡ Refused r → k ≡ numberOf r → (k ≡ loadCall file session .number) × (session ≡ loadCall file session .buffer)
+  unfolding loadCall
+  load-refused h p = let v = told [] (packedOf (loadOf file .session)) session [] (sym load-answer ∙ h) p refl in (v .0, v .1)
+
+  pub load-done : {b : List ℕ} → a ≡ Done → b ≡ overwritten (packedOf (l .session)) session → (0 ≡ loadCall file session .number) × (b ≡ loadCall file session .buffer)
+  unfolding loadCall
+  load-done h p =
+      let q = p ∙ ap (λ (x : Loaded). overwritten (packedOf (x .session)) session) e in
+      let v = done [] (packedOf (loadOf file .session)) session [] (sym load-answer ∙ h) q refl in
+      (v .0, v .1)
+
+-- ## Tables of a gate
+
+module _ (s : Session) (gate : ℕ) (out : List ℕ) (valid : stateTest s ≡ Done) {x : TablesAnswer} (e : x ≡ tablesOf s gate) where
+  abbrev answer : Answer
+  answer = first (gateTest (loadedNet s) gate ∷ [])
+
+  by-gate : x ≡ givenTables answer (gateTables s gate)
+  unfolding tablesOf
+  by-gate = e ∙ rw valid
+
+  pub tables-given : {t : Tables} {o : List ℕ} → x ≡ tables.Given t → o ≡ overwritten (tableWords t) out → Leaves (worked (tablesWork gate s) [] out) 0 [] o
+  tables-given {t} h p =
+      let g = go answer (sym h ∙ by-gate) in
+      done (tableWords (gateTables s gate)) [] [] out (g .0) refl (p ∙ ap (λ (y : Tables). overwritten (tableWords y) out) (g .1))
+    where
+      go : (a : Answer) → tables.Given t ≡ givenTables a (gateTables s gate) → (a ≡ Done) × (t ≡ gateTables s gate)
+      go Done q = (refl, cc)
+      go (Refused r) q = let z : _≡_ {A = ℕ} 0 1 = cc in let n : ⊥ = omega arith in absurd n
+
+  pub tables-refused : {r : Refusal} {k : ℕ} → x ≡ tables.Refused r → k ≡ numberOf r → Leaves (worked (tablesWork gate s) [] out) k [] out
+  tables-refused {r} h p =
+      refused (tableWords (gateTables s gate)) [] [] out (go answer (sym h ∙ by-gate)) (names-first 0 (gateTest (loadedNet s) gate ∷ []) (names-gate 0 (loadedNet s) gate, tt)) p
+    where
+      go : (a : Answer) → tables.Refused r ≡ givenTables a (gateTables s gate) → a ≡ Refused r
+      go Done q = cc
+      go (Refused f) q = cc
+
+-- ## Tables of all gates: the rows of the first g are laid
+
+module _ (s : Session) (g : ℕ) {b b₁ : List ℕ} (l : Laid b 0 (allTableWords s g) b₁ (4 * g)) where
+  pub row-room : g < s .m → 4 * s .m ≤ length b → 4 * g + 4 ≤ length b₁
+  row-room h r = let n = laid-length l in omega arith
+
+  pub row-next : {cdcs fulls b₂ : List ℕ} {d : ℕ} → Tabled (currentNet s) cdcs fulls (s .n) (s .m) → g < s .m → d ≡ sdc (currentNet s) (s .n + g)
+      → b₂ ≡ sets b₁ (4 * g) (d ∷ getD cdcs g 0 ∷ getD fulls g 0 ∷ getD (s .open_tables) g 0 ∷ [])
+      → Laid b 0 (allTableWords s (g + 1)) b₂ (4 * (g + 1))
+  row-next t h e q =
+      let p : s .n + g - s .n ≡ g = omega arith in
+      rw add-one (laid-append l (record {
+        buffer = q ∙ rw (e, t .cdc-at g h, t .full-at g h, p);
+        behind = omega arith;
+      }))
+
+  pub rows-done : g ≡ s .m → 4 * s .m ≤ length b → b₁ ≡ overwritten (allTableWords s (s .m)) b
+  rows-done e r =
+      let k : Laid b 0 (allTableWords s (s .m)) b₁ (4 * s .m) = rw e at l in
+      let n = k .behind in
+      laid-start b (allTableWords s (s .m)) b₁ (4 * s .m) (omega arith) k .1
+
+-- ## The number of patterns in H of each gate, off an array of 40
+
+module _ (s : Session) {x : Counts} (e : x ≡ countsOf s) (valid : stateTest s ≡ Done) where
+  abbrev counted : ℕ → ℕ
+  counted g = compatibleCount (loadedNet s) (s .n + g)
+
+  all : x .counts ≡ places 40 (λ g. cond (ltb g (s .m)) (counted g) 0)
+  all = ap (λ (y : Counts). y .counts) (e ∙ sym (counts-done s valid))
+
+  few : s .m ≤ 40
+  few = count-e 40 (s .m) (valid-e s (state-e s valid) .gates) .1
+
+  pub counts-long : s .m ≤ length (x .counts)
+  counts-long = let n = ap length all ∙ length-places 40 (λ g. cond (ltb g (s .m)) (counted g) 0) in let m = few in omega arith
+
+  pub counts-part : take (s .m - 0) (x .counts) ≡ places (s .m) counted
+  counts-part =
+      let q : s .m - 0 ≡ s .m = omega arith in
+      let m = few in
+      rw q (part-places (x .counts) 0 (s .m) (let n = counts-long in omega arith)
+      ∙ places-ext (s .m) (λ g. getD (x .counts) (0 + g) 0) counted
+      (λ g h. rw (zero-add, all, places-at 0 40 (λ i. cond (ltb i (s .m)) (counted i) 0) g (omega arith), lt-ltb g (s .m) h)))
+
+  pub counts-few : (out : List ℕ) → s .m ≤ length out → length (take (s .m - 0) (x .counts)) ≤ length out
+  counts-few out r = let n = ap length counts-part ∙ length-places (s .m) counted in omega arith
+
+-- ## Verdict and exchange
+
+module _ (s : Session) (r : Replacement) (out : List ℕ) {v : Answer} (e : v ≡ verdictOf s r) where
+  judged : v ≡ first (verdictOf s r ∷ [])
+  judged = e ∙ alone (verdictOf s r)
+
+  pub verdict-refused : {f : Refusal} {k : ℕ} {o : List ℕ} → v ≡ Refused f → k ≡ numberOf f → o ≡ overwritten (valuesOf f) out
+      → Leaves (worked (verdictWork r s) [] out) k [] o
+  verdict-refused h p q = told [] [] [] out (sym judged ∙ h) p q
+
+  pub verdict-done : v ≡ Done → Leaves (worked (verdictWork r s) [] out) 0 [] out
+  verdict-done h = done [] [] [] out (sym judged ∙ h) refl refl
+
+module _ (s : Session) (r : Replacement) {x : Exchanged} (e : x ≡ exchangeOf s r) where
+  pub exchange-answer : x .answer ≡ exchangeAnswer s r
+  unfolding exchangeOf
+  exchange-answer = rw e (go (exchangeAnswer s r))
+    where
+      go : (a : Answer) → exchanged a s r .answer ≡ a
+      go Done = refl
+      go (Refused f) = refl
+
+  answered : x .answer ≡ first (exchangeAnswer s r ∷ [])
+  answered = exchange-answer ∙ alone (exchangeAnswer s r)
+
+  exchange-stored : x .answer ≡ Done → x .session ≡ stored s r
+  unfolding exchangeOf
+  exchange-stored h = rw (e, sym exchange-answer ∙ h)
+
+  module _ (session out : List ℕ) where
+    pub exchange-refused : {f : Refusal} {k : ℕ} {o : List ℕ} → x .answer ≡ Refused f → k ≡ numberOf f → o ≡ overwritten (valuesOf f) out
+        → Leaves (worked (exchangeWork r s) session out) k session o
+    exchange-refused h p q = told [] (packedOf (stored s r)) session out (sym answered ∙ h) p q
+
+    pub exchange-done : {b : List ℕ} → x .answer ≡ Done → b ≡ overwritten (packedOf (x .session)) session → Leaves (worked (exchangeWork r s) session out) 0 b out
+    exchange-done h p =
+        done [] (packedOf (stored s r)) session out (sym answered ∙ h) (p ∙ ap (λ (t : Session). overwritten (packedOf t) session) (exchange-stored h)) refl
+
+-- ## A call that fills a buffer by the answer y, which names nothing
+
+abbrev pub fills : Answer → (given new buffer out : List ℕ) → Left
+fills y given new buffer out = left (first (filled y new buffer .answer ∷ [])) given new buffer out
+
+module _ (y : Answer) (given new buffer out : List ℕ) {b : List ℕ} (q : b ≡ filled y new buffer .buffer) where
+  pub filled-refused : {r : Refusal} {k : ℕ} → Names 0 y → filled y new buffer .answer ≡ Refused r → k ≡ numberOf r → Leaves (fills y given new buffer out) k b out
+  filled-refused {r} {k} n h p = rw q (go y n h)
+    where
+      go : (a : Answer) → Names 0 a → filled a new buffer .answer ≡ Refused r → Leaves (fills a given new buffer out) k (filled a new buffer .buffer) out
+      go Done m e = refused-done r (sym e)
+      go (Refused f) m e = refused given new buffer out e m p
+
+  pub filled-done : {o : List ℕ} → filled y new buffer .answer ≡ Done → o ≡ overwritten given out → Leaves (fills y given new buffer out) 0 b o
+  filled-done {o} h p = rw q (go y h)
+    where
+      go : (a : Answer) → filled a new buffer .answer ≡ Done → Leaves (fills a given new buffer out) 0 (filled a new buffer .buffer) o
+      go Done e = (refl, refl, p)
+      go (Refused f) e = refused-done f e
+
+-- and gives the length in `out`
+module _ (y : Answer) (new buffer out : List ℕ) {b : List ℕ} {w : WriteAnswer}
+    (e : w ≡ writeAnswer (filled y new buffer .answer) (length new)) (q : b ≡ filled y new buffer .buffer) where
+  pub written : {n : ℕ} {o : List ℕ} → w ≡ write.Written n → o ≡ overwritten (n ∷ []) out → Leaves (fills y (length new ∷ []) new buffer out) 0 b o
+  written {n} h p =
+      let g = go (filled y new buffer .answer) (sym h ∙ e) in
+      filled-done y (length new ∷ []) new buffer out q (g .0) (p ∙ ap (λ (i : ℕ). overwritten (i ∷ []) out) (g .1))
+    where
+      go : (a : Answer) → write.Written n ≡ writeAnswer a (length new) → (a ≡ Done) × (n ≡ length new)
+      go Done d = (refl, cc)
+      go (Refused r) d = let z : _≡_ {A = ℕ} 0 1 = cc in let m : ⊥ = omega arith in absurd m
+
+  pub unwritten : {r : Refusal} {k : ℕ} → Names 0 y → w ≡ write.Refused r → k ≡ numberOf r → Leaves (fills y (length new ∷ []) new buffer out) k b out
+  unwritten {r} m h p = filled-refused y (length new ∷ []) new buffer out q m (go (filled y new buffer .answer) (sym h ∙ e)) p
+    where
+      go : (a : Answer) → write.Refused r ≡ writeAnswer a (length new) → a ≡ Refused r
+      go Done d = cc
+      go (Refused f) d = cc
+
+-- the session, then the room
+pub names-filling : (s : Session) (needed : ℕ) (buffer : List ℕ) → Names 0 (first (stateTest s ∷ roomTest needed buffer ∷ []))
+names-filling s needed buffer = names-first 0 (stateTest s ∷ roomTest needed buffer ∷ []) (names-state 0 s, (names-room 0 needed buffer, tt))

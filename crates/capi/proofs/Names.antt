@@ -1,0 +1,127 @@
+-- How many values an answer names: 13 names one, 14 two, and no other refusal any. Assumes nothing.
+use mathlib.Core.Path.{_≡_, refl}
+use mathlib.Core.Logic.{⊎-elim}
+use mathlib.Core.Bool.{Bool, true, false, not, _&&_}
+use mathlib.Core.List.{List, [], _∷_}
+use Prim.Native.Nat.{ℕ, _≤_}
+use native.Mathlib.Omega.{arith}
+use lib.Dec.{ltb}
+use lib.ListN.{length, getD}
+use denote.Enum.Declared.{tagOf}
+use types.Run.{OneOf, miss}
+use Rattle.bits.specs.declared.Found.{Found}
+use Rattle.bits.specs.declared.Found.the-variants.{At, Nothing}
+use Rattle.bits.specs.Range.{every, smallest}
+use Rattle.network.specs.declared.Session.{Session}
+use Rattle.network.specs.declared.Refusal.{Refusal}
+use Rattle.network.specs.declared.Refusal.the-variants.{Truncated, UnexpectedMark, OutOfBounds, FaninNotEarlier, FaninRepeated, BitPastEnd, NotASignal, TrailingBytes, BufferTooShort, InvalidState, NotAGate, TableTooWide, ClosedEntry, Harm}
+use Rattle.network.specs.declared.Answer.{Answer}
+use Rattle.network.specs.declared.Answer.the-variants.{Done, Refused}
+use Rattle.network.specs.Net.{Net, isGate, entries, Replacement, replaced}
+use Rattle.network.specs.Flat.{loadedNet, currentNet}
+use Rattle.network.specs.Refusals.{valuesOf}
+use Rattle.network.specs.Tests.{refuseIf, orElse, first}
+use Rattle.network.specs.State.{stateFault, asInvalid, stateTest}
+use Rattle.network.specs.Calls.{gateTest, fits, tableTest, alters, entryFound, closedTest, harmTest, heldClosed, exchangeTests, exchangeAnswer, verdictOf, roomTest}
+use Rattle.network.proofs.Refusal.{the-type}
+use Rattle.engine.proofs.Outcomes.{harm-only}
+use Rattle.packed.specs.Packed.{sessionWords, byteWords, sessionIn, bytesTest, wordsTest}
+use Rattle.capi.specs.Boundary.{valuesFor}
+
+-- ## A refusal that is neither 13 nor 14
+
+-- the places of all variants but 13's, and but 14's
+abbrev pub no13 : List ℕ
+no13 = 0 ∷ 1 ∷ 2 ∷ 3 ∷ 4 ∷ 5 ∷ 6 ∷ 7 ∷ 8 ∷ 9 ∷ 10 ∷ 11 ∷ 13 ∷ []
+
+abbrev pub no14 : List ℕ
+no14 = 0 ∷ 1 ∷ 2 ∷ 3 ∷ 4 ∷ 5 ∷ 6 ∷ 7 ∷ 8 ∷ 9 ∷ 10 ∷ 11 ∷ 12 ∷ []
+
+pub silent : (r : Refusal) → OneOf no13 (tagOf the-type r) → OneOf no14 (tagOf the-type r) → valuesOf r ≡ []
+silent Truncated p q = refl
+silent UnexpectedMark p q = refl
+silent OutOfBounds p q = refl
+silent FaninNotEarlier p q = refl
+silent FaninRepeated p q = refl
+silent BitPastEnd p q = refl
+silent NotASignal p q = refl
+silent TrailingBytes p q = refl
+silent BufferTooShort p q = refl
+silent InvalidState p q = refl
+silent NotAGate p q = refl
+silent TableTooWide p q = refl
+silent (ClosedEntry t) p q = absurd (miss no13 12 tt p)
+silent (Harm x i) p q = absurd (miss no14 13 tt q)
+
+-- ## An answer
+
+-- it names at most k values
+abbrev pub Names : ℕ → Answer → Type 0
+Names k a = length (valuesFor a []) ≤ k
+
+-- so there is room for what it names
+pub named-room : {a : Answer} {r : Refusal} {k : ℕ} (out : List ℕ) → a ≡ Refused r → Names k a → k ≤ length out → length (valuesOf r) ≤ length out
+named-room out e h l = let n = rw e at h in omega arith
+
+module _ (k : ℕ) where
+  abbrev pub Each : List Answer → Type 0
+  Each [] = Unit {0}
+  Each (a ∷ rest) = Names k a × Each rest
+
+  names-or : (a b : Answer) → Names k a → Names k b → Names k (orElse a b)
+  names-or Done b p q = q
+  names-or (Refused r) b p q = p
+
+  pub names-first : (tests : List Answer) → Each tests → Names k (first tests)
+  names-first [] h = omega arith
+  names-first (a ∷ rest) h = names-or a (first rest) (h .0) (names-first rest (h .1))
+
+  names-if : (b : Bool) (r : Refusal) → length (valuesOf r) ≤ k → Names k (refuseIf b r)
+  names-if true r h = h
+  names-if false r h = omega arith
+
+  pub names-room : (needed : ℕ) (buffer : List ℕ) → Names k (roomTest needed buffer)
+  names-room needed buffer = names-if (ltb (length buffer) needed) BufferTooShort (omega arith)
+
+  pub names-state : (s : Session) → Names k (stateTest s)
+  unfolding stateTest
+  names-state s = go (stateFault s)
+    where
+      go : (a : Answer) → Names k (asInvalid a)
+      go Done = omega arith
+      go (Refused r) = omega arith
+
+  pub names-gate : (N : Net) (g : ℕ) → Names k (gateTest N g)
+  unfolding gateTest
+  names-gate N g = names-if (not (isGate N g)) NotAGate (omega arith)
+
+  names-table : (N : Net) (r : Replacement) → Names k (tableTest N r)
+  unfolding tableTest
+  names-table N r = names-if (not (fits N r)) TableTooWide (omega arith)
+
+  pub names-words : (ws : List ℕ) → Names k (wordsTest ws)
+  unfolding wordsTest bytesTest
+  names-words ws =
+      names-first (roomTest sessionWords ws ∷ bytesTest ws ∷ stateTest (sessionIn ws) ∷ [])
+      (names-room sessionWords ws, (names-if (not (every byteWords (λ i. ltb (getD ws i 0) 256))) InvalidState (omega arith), (names-state (sessionIn ws), tt)))
+
+pub names-exchange : (s : Session) (r : Replacement) → Names 1 (exchangeAnswer s r)
+unfolding exchangeAnswer closedTest
+names-exchange s r =
+    let N = loadedNet s in
+    let shut = heldClosed s (r .signal) in
+    names-first 1 (stateTest s ∷ exchangeTests N shut r)
+    (names-state 1 s, (names-gate 1 N (r .signal), (names-table 1 N r, (go (smallest (entries N (r .signal)) (λ t. shut t && alters N r t)), tt))))
+  where
+    go : (f : Found) → Names 1 (entryFound f)
+    go (At t) = omega arith
+    go Nothing = omega arith
+
+pub names-verdict : (s : Session) (r : Replacement) → Names 2 (verdictOf s r)
+unfolding verdictOf
+names-verdict s r =
+    let N = loadedNet s in
+    let M = replaced (currentNet s) (r ∷ []) in
+    let h : Names 2 (harmTest N M) = ⊎-elim (λ e. rw e (omega arith)) (λ f. rw (f .2) (omega arith)) (harm-only N M) in
+    names-first 2 (stateTest s ∷ gateTest N (r .signal) ∷ tableTest N r ∷ harmTest N M ∷ [])
+    (names-state 2 s, (names-gate 2 N (r .signal), (names-table 2 N r, (h, tt))))

@@ -1,0 +1,120 @@
+-- `capi::tusqirma_exchange` meets its contract. Assumes nothing.
+use mathlib.Core.Path.{sym, _∙_}
+use borrow.Author.Needs.{needs}
+use Rattle.network.specs.Net.{Replacement}
+use Rattle.capi.specs.Boundary.{exchangeWork, exchangeCall}
+use Rattle.capi.proofs.Names.{named-room, names-exchange}
+use Rattle.capi.proofs.Laws.{down, opens}
+use Rattle.capi.proofs.Answers.{exchange-answer, exchange-refused, exchange-done}
+use Rattle.capi.proofs.tusqirma_exchange.Statement.{statement}
+use Rattle.capi.proofs.tusqirma_exchange.Tie as tie
+
+unpack-requires : tie.Need-unpack-requires
+unpack-requires c κs = search needs
+
+room-requires : tie.Need-room-requires
+room-requires c κs = search needs
+
+enum-known-a : tie.Need-enum-known-a
+enum-known-a c = search needs
+
+number-of-requires : tie.Need-number-of-requires
+number-of-requires c κs = search needs
+
+same-length : tie.Need-same-length
+same-length c = search needs
+
+returns : tie.Need-returns
+unfolding exchangeCall
+returns c =
+    let t = c .before .before .before .before in
+    let a = t .before .before .before .before .before .args in
+    let r : Replacement = record { signal = a .gate; table = a .table } in
+    down (exchangeWork r) (a .session .now) (a .session .now) (a .out .now) (t .before .unpack .ensures) (t .room .ensures) (c .before .before .a .given .1) (c .number-of .ensures .0)
+
+enum-told : tie.Need-enum-told
+enum-told c = search needs
+
+exchange-requires : tie.Need-exchange-requires
+exchange-requires c κs = search needs
+
+enum-known-v : tie.Need-enum-known-v
+enum-known-v c = search needs
+
+tell-refusal-requires : tie.Need-tell-refusal-requires
+tell-refusal-requires c κs =
+    let h = c .before .before in
+    let k = h .before .before in
+    let t = k .before .before .before in
+    let a = t .before .before .before .before .before .args in
+    let r : Replacement = record { signal = a .gate; table = a .table } in
+    let x = opens (exchangeWork r) (a .session .now) (a .session .now) (a .out .now) (t .before .unpack .ensures) (t .room .ensures) (k .before .enum-told .given .1) in
+    let s = t .before .unpack .result .session in
+    named-room (a .out .now) (sym (exchange-answer s r (k .exchange .ensures)) ∙ h .v .given .1) (names-exchange s r) (x .room)
+
+same-length-2 : tie.Need-same-length-2
+same-length-2 c = search needs
+
+same-length-3 : tie.Need-same-length-3
+same-length-3 c = search needs
+
+returns-2 : tie.Need-returns-2
+unfolding exchangeCall
+returns-2 c =
+    let g = c .before .before in
+    let h = g .before .before .before in
+    let k = h .before .before in
+    let t = k .before .before .before in
+    let a = t .before .before .before .before .before .args in
+    let r : Replacement = record { signal = a .gate; table = a .table } in
+    let x = opens (exchangeWork r) (a .session .now) (a .session .now) (a .out .now) (t .before .unpack .ensures) (t .room .ensures) (k .before .enum-told .given .1) in
+    x .leaves (exchange-refused (t .before .unpack .result .session) r (k .exchange .ensures)
+    (a .session .now) (a .out .now) (h .v .given .1) (g .tell-refusal .ensures .0) (g .tell-refusal .ensures .1))
+
+enum-told-2 : tie.Need-enum-told-2
+enum-told-2 c = search needs
+
+pack-requires : tie.Need-pack-requires
+pack-requires c κs =
+    let k = c .before .before .before in
+    let t = k .before .before .before in
+    let a = t .before .before .before .before .before .args in
+    let r : Replacement = record { signal = a .gate; table = a .table } in
+    opens (exchangeWork r) (a .session .now) (a .session .now) (a .out .now) (t .before .unpack .ensures) (t .room .ensures) (k .before .enum-told .given .1) .long
+
+same-length-4 : tie.Need-same-length-4
+same-length-4 c = search needs
+
+returns-3 : tie.Need-returns-3
+unfolding exchangeCall
+returns-3 c =
+    let h = c .before .before .before .before in
+    let k = h .before .before in
+    let t = k .before .before .before in
+    let a = t .before .before .before .before .before .args in
+    let r : Replacement = record { signal = a .gate; table = a .table } in
+    let x = opens (exchangeWork r) (a .session .now) (a .session .now) (a .out .now) (t .before .unpack .ensures) (t .room .ensures) (k .before .enum-told .given .1) in
+    x .leaves (exchange-done (t .before .unpack .result .session) r (k .exchange .ensures)
+    (a .session .now) (a .out .now) (h .enum-told2 .given .1) (c .before .before .pack .ensures))
+
+pub tusqirma-exchange-spec : {M : Type 1} → statement M
+tusqirma-exchange-spec =
+    tie.close
+    (tie.spec
+    unpack-requires
+    room-requires
+    enum-known-a
+    number-of-requires
+    same-length
+    returns
+    enum-told
+    exchange-requires
+    enum-known-v
+    tell-refusal-requires
+    same-length-2
+    same-length-3
+    returns-2
+    enum-told-2
+    pack-requires
+    same-length-4
+    returns-3)

@@ -1,0 +1,100 @@
+-- `capi::tusqirma_verdict` meets its contract. Assumes nothing.
+use mathlib.Core.Path.{sym, _∙_}
+use mathlib.Core.List.{[]}
+use borrow.Author.Needs.{needs}
+use Rattle.network.specs.Net.{Replacement}
+use Rattle.capi.specs.Boundary.{verdictWork, verdictCall}
+use Rattle.capi.proofs.Names.{named-room, names-verdict}
+use Rattle.capi.proofs.Laws.{down, opens}
+use Rattle.capi.proofs.Answers.{verdict-refused, verdict-done}
+use Rattle.capi.proofs.tusqirma_verdict.Statement.{statement}
+use Rattle.capi.proofs.tusqirma_verdict.Tie as tie
+
+unpack-requires : tie.Need-unpack-requires
+unpack-requires c κs = search needs
+
+room-requires : tie.Need-room-requires
+room-requires c κs = search needs
+
+enum-known-a : tie.Need-enum-known-a
+enum-known-a c = search needs
+
+number-of-requires : tie.Need-number-of-requires
+number-of-requires c κs = search needs
+
+returns : tie.Need-returns
+unfolding verdictCall
+returns c =
+    let t = c .before .before .before .before in
+    let a = t .before .before .before .before .args in
+    let r : Replacement = record { signal = a .gate; table = a .table } in
+    let v = down (verdictWork r) (a .session .now) [] (a .out .now) (t .before .unpack .ensures) (t .room .ensures) (c .before .before .a .given .1) (c .number-of .ensures .0) in
+    (v .0, v .2)
+
+enum-told : tie.Need-enum-told
+enum-told c = search needs
+
+verdict-requires : tie.Need-verdict-requires
+verdict-requires c κs = search needs
+
+enum-known-v : tie.Need-enum-known-v
+enum-known-v c = search needs
+
+tell-refusal-requires : tie.Need-tell-refusal-requires
+tell-refusal-requires c κs =
+    let h = c .before .before in
+    let k = h .before .before in
+    let t = k .before .before .before in
+    let a = t .before .before .before .before .args in
+    let r : Replacement = record { signal = a .gate; table = a .table } in
+    let x = opens (verdictWork r) (a .session .now) [] (a .out .now) (t .before .unpack .ensures) (t .room .ensures) (k .before .enum-told .given .1) in
+    named-room (a .out .now) (sym (k .verdict .ensures) ∙ h .v .given .1) (names-verdict (t .before .unpack .result .session) r) (x .room)
+
+same-length : tie.Need-same-length
+same-length c = search needs
+
+returns-2 : tie.Need-returns-2
+unfolding verdictCall
+returns-2 c =
+    let g = c .before .before in
+    let h = g .before .before .before in
+    let k = h .before .before in
+    let t = k .before .before .before in
+    let a = t .before .before .before .before .args in
+    let r : Replacement = record { signal = a .gate; table = a .table } in
+    let x = opens (verdictWork r) (a .session .now) [] (a .out .now) (t .before .unpack .ensures) (t .room .ensures) (k .before .enum-told .given .1) in
+    let v = x .leaves (verdict-refused (t .before .unpack .result .session) r (a .out .now) (k .verdict .ensures) (h .v .given .1)
+    (g .tell-refusal .ensures .0) (g .tell-refusal .ensures .1)) in
+    (v .0, v .2)
+
+enum-told-2 : tie.Need-enum-told-2
+enum-told-2 c = search needs
+
+returns-3 : tie.Need-returns-3
+unfolding verdictCall
+returns-3 c =
+    let k = c .before .before in
+    let t = k .before .before .before in
+    let a = t .before .before .before .before .args in
+    let r : Replacement = record { signal = a .gate; table = a .table } in
+    let x = opens (verdictWork r) (a .session .now) [] (a .out .now) (t .before .unpack .ensures) (t .room .ensures) (k .before .enum-told .given .1) in
+    let v = x .leaves (verdict-done (t .before .unpack .result .session) r (a .out .now) (k .verdict .ensures) (c .enum-told2 .given .1)) in
+    (v .0, v .2)
+
+pub tusqirma-verdict-spec : {M : Type 1} → statement M
+tusqirma-verdict-spec =
+    tie.close
+    (tie.spec
+    unpack-requires
+    room-requires
+    enum-known-a
+    number-of-requires
+    returns
+    enum-told
+    verdict-requires
+    enum-known-v
+    tell-refusal-requires
+    same-length
+    returns-2
+    enum-told-2
+    returns-3)

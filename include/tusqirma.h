@@ -1,0 +1,158 @@
+/*
+ * Tusqirma: don't-care tables of gate networks, verdicts on a lone replacement, and sessions of exchanges.
+ *
+ * The calls of the static library libcapi.a. Each returns 0 where it did what was asked, or the number of a refusal.
+ *
+ * A network has n inputs (1 to 10), m gates (1 to 40) and p outputs (1 to 8); a gate has k fan-ins (1 to 4). Signals 0 to
+ * n-1 are the inputs and n to n+m-1 the gates, in file order; a call's `gate` is such a signal number. Pattern x gives
+ * input i the value of bit i of x. Entry t of a table stands at bit t and answers the fan-in values whose sum, fan-in r
+ * times 2^r, is t. A set of patterns has pattern x at bit x % 64 of its word x / 64.
+ *
+ * A one in the excluded set means that the pattern NEVER comes.
+ *
+ * Buffers. Each is passed as a pointer and a length in elements. No pointer may be NULL, not even with length 0; it must
+ * be aligned for its type, and that many elements must be there. Buffers of one call must not overlap. A call keeps no
+ * pointer. What lies behind the elements that a call needs stays as it was.
+ *
+ * Refusals. TUSQIRMA_CLOSED_ENTRY and TUSQIRMA_HARM write the values that they name to the start of `out`, and nothing
+ * else. In every other refusal each lent word and byte stays as it was. A session is written by tusqirma_load and
+ * tusqirma_exchange alone, and only where they return 0.
+ *
+ * Order of the tests. tusqirma_load: 1 to 8, then 9. The calls on a session: 9 for a session of fewer than 427 words, 10,
+ * 9 for any other buffer, then 11, 12, and 13 or 14. tusqirma_listing: 9 only.
+ */
+#ifndef TUSQIRMA_H
+#define TUSQIRMA_H
+
+#include <stddef.h>
+#include <stdint.h>
+
+#ifdef __cplusplus
+extern "C" {
+#endif
+
+/* What a call returns. */
+enum tusqirma_refusal {
+    TUSQIRMA_DONE = 0,              /* not refused */
+    /* the file */
+    TUSQIRMA_TRUNCATED = 1,         /* bytes run out where a record is due or inside one */
+    TUSQIRMA_UNEXPECTED_MARK = 2,   /* the mark is not due there */
+    TUSQIRMA_OUT_OF_BOUNDS = 3,     /* n, m, p or k outside its bounds */
+    TUSQIRMA_FANIN_NOT_EARLIER = 4, /* a fan-in that is not an earlier signal */
+    TUSQIRMA_FANIN_REPEATED = 5,    /* a fan-in already listed in this gate */
+    TUSQIRMA_BIT_PAST_END = 6,      /* a bit set at or past 2^k in a table, or 2^n in the excluded set */
+    TUSQIRMA_NOT_A_SIGNAL = 7,      /* an output signal not below n+m */
+    TUSQIRMA_TRAILING_BYTES = 8,    /* bytes after the last record */
+    /* the buffers */
+    TUSQIRMA_BUFFER_TOO_SHORT = 9,  /* a buffer shorter than the words or bytes needed */
+    TUSQIRMA_INVALID_STATE = 10,    /* session words that hold no network: see the session's words below */
+    /* the session's user */
+    TUSQIRMA_NOT_A_GATE = 11,       /* no gate has that signal number */
+    TUSQIRMA_TABLE_TOO_WIDE = 12,   /* the table has a bit at or past 2^k */
+    TUSQIRMA_CLOSED_ENTRY = 13,     /* exchange: alters a closed entry of the loaded table; out[0]: the smallest */
+    TUSQIRMA_HARM = 14              /* verdict: an output changes; out[0]: the smallest pattern, out[1]: there, the lowest output */
+};
+
+/*
+ * The words of a session, one number in each. The user may keep, copy and read them. Words made by hand are tested by
+ * every call, which returns TUSQIRMA_INVALID_STATE where
+ *   - one of the words before TUSQIRMA_WORD_EXCLUDED is past 255;
+ *   - n, m, p, or the k of one of the m gates is outside its bounds;
+ *   - one of a gate's k fan-ins is no earlier signal, or is listed twice;
+ *   - a loaded or a current table of the m gates has a bit at or past 2^k;
+ *   - the excluded set has a bit at or past 2^n in any of its words;
+ *   - one of the p outputs is not below n+m.
+ * Open tables are taken as they stand. Places behind a gate's k fan-ins, the m gates and the p outputs are held to the
+ * first of these tests only, and stay as they are.
+ */
+enum tusqirma_word {
+    TUSQIRMA_WORD_N = 0,          /* inputs */
+    TUSQIRMA_WORD_M = 1,          /* gates */
+    TUSQIRMA_WORD_P = 2,          /* outputs */
+    TUSQIRMA_WORD_ARITY = 3,      /* 40: k of each gate */
+    TUSQIRMA_WORD_FANINS = 43,    /* 240: six places for each gate; fan-in r of gate n+g is at 43 + 6 g + r */
+    TUSQIRMA_WORD_OUTPUTS = 283,  /* 8: the signal of each output */
+    TUSQIRMA_WORD_EXCLUDED = 291, /* 16: the excluded set; a one means that the pattern never comes */
+    TUSQIRMA_WORD_LOADED = 307,   /* 40: the table of each gate as loaded */
+    TUSQIRMA_WORD_CURRENT = 347,  /* 40: the table of each gate after the exchanges */
+    TUSQIRMA_WORD_OPEN = 387,     /* 40: the open table of each gate */
+    TUSQIRMA_SESSION_WORDS = 427  /* words in all */
+};
+
+/* Lengths that are enough for any network. */
+enum tusqirma_most {
+    TUSQIRMA_MOST_FILE = 519,           /* bytes of a file that loads */
+    TUSQIRMA_MOST_TEXT = 1042,          /* bytes of a listing */
+    TUSQIRMA_MOST_GATES = 40,           /* words for tusqirma_hidden */
+    TUSQIRMA_MOST_TABLE_WORDS = 160,    /* words for tusqirma_all_tables */
+    TUSQIRMA_MOST_PATTERN_WORDS = 1280  /* words for tusqirma_pattern_sets */
+};
+
+/* The number of a session's words: TUSQIRMA_SESSION_WORDS. */
+size_t tusqirma_session_words(void);
+
+/*
+ * Reads a network file into `session` (427 words), with the open tables of its gates worked out; current tables are the
+ * loaded ones. Refusals 1 to 8, then 9.
+ */
+uint64_t tusqirma_load(const uint8_t *file, size_t file_len, uint64_t *session, size_t session_len);
+
+/*
+ * The tables of one gate, to `out` (4 words). The first three are of the current network; the open table is the one that
+ * the session holds. Refusals 9, 10, 11.
+ *   SDC         entry t + 2^k o, where o is 0 or 1, is set when o differs from the table's entry t
+ *   CDC         entry t is set when no pattern gives the fan-ins the values of t
+ *   full table  the entries that a lone replacement may alter: each pattern that gives t is excluded or in the ODC
+ *   open table  the entries that an exchange may alter, whatever is exchanged at other gates
+ */
+uint64_t tusqirma_tables(const uint64_t *session, size_t session_len, size_t gate, uint64_t *out, size_t out_len);
+
+/* The same four words of each gate, gate after gate, to `out` (4 m words). Refusals 9, 10. */
+uint64_t tusqirma_all_tables(const uint64_t *session, size_t session_len, uint64_t *out, size_t out_len);
+
+/*
+ * Two sets of patterns of each gate, gate after gate, to `words` (2 m W words, where W is 2^n / 64 and at least 1). Each
+ * set fills W words; spare bits are zero. Refusals 9, 10.
+ *   ODC  of the current network: the patterns at which inverting the gate's value changes no output
+ *   H    the compatible set, of the loaded network: the patterns at which the gate's value may change while other gates'
+ *        values change at theirs
+ */
+uint64_t tusqirma_pattern_sets(const uint64_t *session, size_t session_len, uint64_t *words, size_t words_len);
+
+/* The number of patterns in the compatible set H of each gate, gate after gate, to `out` (m words). Refusals 9, 10. */
+uint64_t tusqirma_hidden(const uint64_t *session, size_t session_len, uint64_t *out, size_t out_len);
+
+/*
+ * Judges the current network with the table of one gate replaced, against the loaded network's outputs. Returns 0 where
+ * no pattern that is not excluded changes an output; otherwise 14, with the smallest such pattern in out[0] and its
+ * lowest changed output (0 to p-1) in out[1]. `out` has 2 words, and keeps them in every other outcome. The session
+ * stays. Refusals 9, 10, 11, 12, 14.
+ */
+uint64_t tusqirma_verdict(const uint64_t *session, size_t session_len, size_t gate, uint64_t table, uint64_t *out, size_t out_len);
+
+/*
+ * Sets the current table of one gate. Refused with 13 where the table differs from the loaded one at an entry that is
+ * not open; out[0] is then the smallest such entry. `out` has 1 word, and keeps it in every other outcome. Whatever is
+ * exchanged after a load, each output stays as loaded at each pattern that is not excluded.
+ * Refusals 9, 10, 11, 12, 13.
+ */
+uint64_t tusqirma_exchange(uint64_t *session, size_t session_len, size_t gate, uint64_t table, uint64_t *out, size_t out_len);
+
+/*
+ * Writes the network with its current tables as a file from the start of `file`, and the number of its bytes to `out`
+ * (1 word). An empty excluded set is left out. Refusals 9 (`out`, or `file` shorter than these bytes), 10.
+ */
+uint64_t tusqirma_write(const uint64_t *session, size_t session_len, uint8_t *file, size_t file_len, uint64_t *out, size_t out_len);
+
+/*
+ * The listing of a file, from the start of `text`, and the number of its bytes to `out` (1 word). No zero byte follows.
+ * A file that would not load has the listing `refused N` and a newline; the call itself then returns 0.
+ * Refusal 9 (`out`, or `text` shorter than these bytes).
+ */
+uint64_t tusqirma_listing(const uint8_t *file, size_t file_len, uint8_t *text, size_t text_len, uint64_t *out, size_t out_len);
+
+#ifdef __cplusplus
+}
+#endif
+
+#endif

@@ -1,0 +1,95 @@
+/* The twin network of document 01 by every call: gates 1 and 2 copy input 0, gate 3 is their OR. */
+#include <inttypes.h>
+#include <stdio.h>
+
+#include "tusqirma.h"
+
+static const uint8_t twin[] = {0x4E, 0x49, 1, 3, 1, 0x4E, 0x47, 1, 0, 2,    0, 0x4E, 0x47, 1,
+                               0,    2,    0, 0x4E, 0x47, 2, 1, 2, 0x0E, 0, 0x4E, 0x4F, 3};
+
+static uint64_t session[TUSQIRMA_SESSION_WORDS];
+
+/* Prints what a call returned, and the words that it gave. */
+static void print(const char *what, uint64_t number, const uint64_t *words, size_t count)
+{
+    size_t i;
+    printf("%s: %" PRIu64, what, number);
+    for (i = 0; i < count; i++)
+        printf(" %" PRIX64, words[i]);
+    printf("\n");
+}
+
+static void exchange(const char *what, size_t gate, uint64_t table)
+{
+    uint64_t entry[1] = {0};
+    uint64_t number = tusqirma_exchange(session, TUSQIRMA_SESSION_WORDS, gate, table, entry, 1);
+    print(what, number, entry, number == TUSQIRMA_CLOSED_ENTRY ? 1 : 0);
+}
+
+static void verdict(const char *what, size_t gate, uint64_t table)
+{
+    uint64_t harm[2] = {0, 0};
+    uint64_t number = tusqirma_verdict(session, TUSQIRMA_SESSION_WORDS, gate, table, harm, 2);
+    print(what, number, harm, number == TUSQIRMA_HARM ? 2 : 0);
+}
+
+static void listing(const uint8_t *file, size_t length)
+{
+    uint8_t text[TUSQIRMA_MOST_TEXT];
+    uint64_t bytes[1] = {0};
+    uint64_t number = tusqirma_listing(file, length, text, sizeof text, bytes, 1);
+    print("listing", number, bytes, 1);
+    fwrite(text, 1, (size_t)bytes[0], stdout);
+}
+
+static void sets(void)
+{
+    uint64_t tables[TUSQIRMA_MOST_TABLE_WORDS];
+    uint64_t words[TUSQIRMA_MOST_PATTERN_WORDS];
+    uint64_t hidden[TUSQIRMA_MOST_GATES];
+    print("tables of gate 1", tusqirma_tables(session, TUSQIRMA_SESSION_WORDS, 1, tables, 4), tables, 4);
+    print("tables of gate 3", tusqirma_tables(session, TUSQIRMA_SESSION_WORDS, 3, tables, 4), tables, 4);
+    print("all tables", tusqirma_all_tables(session, TUSQIRMA_SESSION_WORDS, tables, 12), tables, 12);
+    print("pattern sets", tusqirma_pattern_sets(session, TUSQIRMA_SESSION_WORDS, words, 6), words, 6);
+    print("hidden", tusqirma_hidden(session, TUSQIRMA_SESSION_WORDS, hidden, 3), hidden, 3);
+}
+
+static void write_again(void)
+{
+    uint8_t file[TUSQIRMA_MOST_FILE];
+    uint64_t bytes[1] = {0};
+    uint64_t number = tusqirma_write(session, TUSQIRMA_SESSION_WORDS, file, sizeof file, bytes, 1);
+    print("write", number, bytes, 1);
+    listing(file, (size_t)bytes[0]);
+}
+
+static void refusals(void)
+{
+    uint64_t out[4];
+    uint64_t n = session[TUSQIRMA_WORD_N];
+    print("load one byte short", tusqirma_load(twin, sizeof twin - 1, session, TUSQIRMA_SESSION_WORDS), out, 0);
+    print("load to a short session", tusqirma_load(twin, sizeof twin, session, TUSQIRMA_SESSION_WORDS - 1), out, 0);
+    print("tables of an input", tusqirma_tables(session, TUSQIRMA_SESSION_WORDS, 0, out, 4), out, 0);
+    session[TUSQIRMA_WORD_N] = 11;
+    print("tables of a state with n 11", tusqirma_tables(session, TUSQIRMA_SESSION_WORDS, 1, out, 4), out, 0);
+    session[TUSQIRMA_WORD_N] = n;
+}
+
+int main(void)
+{
+    if (tusqirma_session_words() != TUSQIRMA_SESSION_WORDS)
+        return 1;
+    listing(twin, sizeof twin);
+    print("load", tusqirma_load(twin, sizeof twin, session, TUSQIRMA_SESSION_WORDS), session, 3);
+    sets();
+    verdict("verdict, gate 2 to 0", 2, 0);
+    exchange("exchange, gate 1 to 0", 1, 0);
+    exchange("exchange, gate 2 to 0", 2, 0);
+    verdict("verdict, gate 2 to 0", 2, 0);
+    exchange("exchange, gate 3 to C", 3, 0xC);
+    exchange("exchange, gate 3 to 10", 3, 0x10);
+    exchange("exchange, gate 4 to 0", 4, 0);
+    write_again();
+    refusals();
+    return 0;
+}

@@ -1,0 +1,70 @@
+//! A network, and the values of its signals.
+
+/// `excluded[x]`: pattern x never comes.
+#[derive(Clone, Debug, PartialEq)]
+pub struct Network {
+    pub n: usize,
+    pub excluded: Vec<bool>,
+    pub fanins: Vec<Vec<usize>>,
+    pub tables: Vec<u64>,
+    pub outputs: Vec<usize>,
+}
+
+pub fn bit(x: u64, i: usize) -> bool {
+    x >> i & 1 == 1
+}
+
+impl Network {
+    pub fn m(&self) -> usize {
+        self.fanins.len()
+    }
+
+    pub fn patterns(&self) -> usize {
+        1 << self.n
+    }
+
+    /// The entries of gate g's table.
+    pub fn entries(&self, g: usize) -> usize {
+        1 << self.fanins[g].len()
+    }
+
+    /// The entry of gate g that the values give.
+    pub fn entry(&self, values: &[bool], g: usize) -> usize {
+        let mut t = 0;
+        for (r, &f) in self.fanins[g].iter().enumerate() {
+            if values[f] {
+                t += 1 << r;
+            }
+        }
+        t
+    }
+
+    /// The values of all signals at the pattern x; the gate `inverted` counts the other way round.
+    pub fn values(&self, x: usize, inverted: Option<usize>) -> Vec<bool> {
+        let mut values = Vec::with_capacity(self.n + self.m());
+        values.extend((0..self.n).map(|i| bit(x as u64, i)));
+        for g in 0..self.m() {
+            let v = bit(self.tables[g], self.entry(&values, g));
+            values.push(v != (inverted == Some(g)));
+        }
+        values
+    }
+
+    pub fn outputs_at(&self, x: usize, inverted: Option<usize>) -> Vec<bool> {
+        let values = self.values(x, inverted);
+        self.outputs.iter().map(|&s| values[s]).collect()
+    }
+
+    /// The smallest pattern not excluded at which an output of the other network differs, and the lowest such output.
+    pub fn harm(&self, other: &Network) -> Option<(usize, usize)> {
+        for x in (0..self.patterns()).filter(|&x| !self.excluded[x]) {
+            let (a, b) = (self.outputs_at(x, None), other.outputs_at(x, None));
+            for i in 0..self.outputs.len() {
+                if a[i] != b[i] {
+                    return Some((x, i));
+                }
+            }
+        }
+        None
+    }
+}

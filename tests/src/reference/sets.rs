@@ -1,0 +1,113 @@
+//! 01's sets, by their numbers there.
+
+use super::network::{bit, Network};
+
+/// The set of the entries below `size` that are chosen.
+fn table(size: usize, chosen: impl Fn(usize) -> bool) -> u64 {
+    (0..size)
+        .filter(|&t| chosen(t))
+        .fold(0, |set, t| set | 1 << t)
+}
+
+impl Network {
+    /// 1. SDC.
+    pub fn sdc(&self, g: usize) -> u64 {
+        let entries = self.entries(g);
+        table(2 * entries, |e| {
+            let (t, o) = (e % entries, e / entries == 1);
+            o != bit(self.tables[g], t)
+        })
+    }
+
+    /// The entry of gate g that comes at each pattern.
+    fn entries_at(&self, g: usize) -> Vec<usize> {
+        (0..self.patterns())
+            .map(|x| self.entry(&self.values(x, None), g))
+            .collect()
+    }
+
+    /// 2. CDC.
+    pub fn cdc(&self, g: usize) -> u64 {
+        let given = self.entries_at(g);
+        table(self.entries(g), |t| !given.contains(&t))
+    }
+
+    /// 3. ODC, as one truth value for each pattern.
+    pub fn odc(&self, g: usize) -> Vec<bool> {
+        (0..self.patterns())
+            .map(|x| self.outputs_at(x, None) == self.outputs_at(x, Some(g)))
+            .collect()
+    }
+
+    /// 4. Full table.
+    pub fn full(&self, g: usize) -> u64 {
+        let (given, odc) = (self.entries_at(g), self.odc(g));
+        table(self.entries(g), |t| {
+            (0..self.patterns()).all(|x| given[x] != t || self.excluded[x] || odc[x])
+        })
+    }
+
+    /// 5. H of all gates: `[gate][pattern]`.
+    pub fn compatible(&self) -> Vec<Vec<bool>> {
+        let by_pattern: Vec<Vec<bool>> = (0..self.patterns())
+            .map(|x| self.compatible_at(x))
+            .collect();
+        (0..self.m())
+            .map(|g| by_pattern.iter().map(|h| h[g]).collect())
+            .collect()
+    }
+
+    /// Which gates' H hold the pattern x.
+    fn compatible_at(&self, x: usize) -> Vec<bool> {
+        let values = self.values(x, None);
+        let mut h = vec![true; self.n + self.m()];
+        for &s in &self.outputs {
+            h[s] = h[s] && self.excluded[x];
+        }
+        for g in (0..self.m()).rev() {
+            let free = self.free(g, self.entry(&values, g));
+            for (r, &f) in self.fanins[g].iter().enumerate() {
+                h[f] = h[f] && (h[self.n + g] || free[r]);
+            }
+        }
+        h[self.n..].to_vec()
+    }
+
+    /// 6. The fan-ins that are free at the entry t of gate g, where its value counts.
+    fn free(&self, g: usize, t: usize) -> Vec<bool> {
+        let k = self.fanins[g].len();
+        let value = bit(self.tables[g], t);
+        let mut free = vec![false; k];
+        for r in 0..k {
+            free[r] = true;
+            let held = |u: usize| (0..k).all(|q| free[q] || (u >> q & 1) == (t >> q & 1));
+            free[r] = (0..1usize << k).all(|u| !held(u) || bit(self.tables[g], u) == value);
+        }
+        free
+    }
+
+    /// 7. Open tables of all gates.
+    pub fn open_tables(&self) -> Vec<u64> {
+        let h = self.compatible();
+        (0..self.m()).map(|g| self.open_table(g, &h)).collect()
+    }
+
+    fn open_table(&self, g: usize, h: &[Vec<bool>]) -> u64 {
+        let mut closed = vec![false; self.entries(g)];
+        for x in (0..self.patterns()).filter(|&x| !h[g][x]) {
+            let values = self.values(x, None);
+            for (t, shut) in closed.iter_mut().enumerate() {
+                *shut = *shut || self.delivered(g, t, x, &values, h);
+            }
+        }
+        table(self.entries(g), |t| !closed[t])
+    }
+
+    /// t agrees with the fan-in values at the pattern x, except at gates whose H holds x.
+    fn delivered(&self, g: usize, t: usize, x: usize, values: &[bool], h: &[Vec<bool>]) -> bool {
+        self.fanins[g].iter().enumerate().all(|(r, &f)| {
+            let moves = f >= self.n && h[f - self.n][x];
+            moves || values[f] == bit(t as u64, r)
+        })
+    }
+}

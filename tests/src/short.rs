@@ -1,0 +1,142 @@
+//! Buffers that are too short: for every call and every buffer the lengths from none to one short, then as long as needed
+//! and longer. Every word and byte of every buffer is compared.
+
+use crate::call::{filling, Call, Lent, ROOM};
+use crate::damage;
+use crate::engine::RAW;
+use crate::random::{self, Random};
+use crate::reference::{self, State, WORDS};
+use crate::report::{differs, outcome, Case, Report};
+use crate::states::calls;
+
+pub fn compare(report: &mut Report, seed: u64, cases: usize) {
+    let words = [tusqirma::raw::session_words(), tusqirma::SESSION_WORDS];
+    report.require("427 words", words == [WORDS; 2]);
+    for i in 0..cases {
+        let mut rng = Random::new(seed, report.name(), i);
+        // every length of a small network's buffers, and some lengths of any network's
+        let every = i % 4 > 0;
+        let file = match every {
+            true => random::network_of(&mut rng, i % 4, 3),
+            false => random::network(&mut rng, i / 4),
+        };
+        let state = State::fresh(reference::load(&file).expect("a random network loads"));
+        let list = calls(&mut rng, &state);
+        let more: Vec<Call> = (0..8).flat_map(|_| calls(&mut rng, &state)).collect();
+        let mut short = Short {
+            report,
+            rng,
+            case: Case::new(i, &file),
+            every,
+        };
+        let session = Lent::session(&state.words());
+        for &call in &list {
+            short.session(call, &state);
+        }
+        for call in list.into_iter().chain(more.into_iter().filter(judges)) {
+            short.others(call, &session, &state);
+        }
+        short.others(Call::Listing, &Lent::file(&file), &state);
+        short.load();
+    }
+    report.require_answers((0..=9).chain(11..=14));
+}
+
+/// Verdicts and exchanges, whose answers differ most.
+fn judges(call: &Call) -> bool {
+    matches!(call, Call::Verdict { .. } | Call::Exchange { .. })
+}
+
+/// The bytes and the words that a call needs, beside the session.
+fn needed(call: Call, s: &State, file: &[u8]) -> (usize, usize) {
+    let (m, patterns) = (s.loaded.m(), s.loaded.patterns());
+    match call {
+        Call::Load => (0, 0),
+        Call::Tables { .. } => (0, 4),
+        Call::AllTables => (0, 4 * m),
+        Call::PatternSets => (0, 2 * m * (patterns / 64).max(1)),
+        Call::Hidden => (0, m),
+        Call::Verdict { .. } => (0, 2),
+        Call::Exchange { .. } => (0, 1),
+        Call::Write => (reference::write(&s.current).len(), 1),
+        Call::Listing => (reference::listing(file).len(), 1),
+    }
+}
+
+struct Short<'a> {
+    report: &'a mut Report,
+    rng: Random,
+    case: Case,
+    every: bool,
+}
+
+impl Short<'_> {
+    /// The lengths to try of a buffer that needs so many elements.
+    fn lengths(&mut self, needed: usize) -> Vec<usize> {
+        let mut lengths: Vec<usize> = if self.every || needed < 3 {
+            (0..needed).collect()
+        } else {
+            vec![0, 1, self.rng.within(2, needed - 1), needed - 1]
+        };
+        lengths.extend([needed, needed + 1, needed + 9]);
+        lengths
+    }
+
+    /// Compares, and holds the answer to be 9 exactly where `short` says so.
+    fn expect(&mut self, call: Call, lent: &Lent, short: bool) {
+        let (answer, after) = outcome(call, lent);
+        let wrong = short != (answer == 9);
+        let difference = differs(&RAW, call, lent, answer, &after)
+            .or_else(|| wrong.then(|| format!("{call:?}: {answer}")));
+        let lengths = (lent.session.len(), lent.bytes.len(), lent.out.len());
+        let text = |d| format!("{}lengths {lengths:?}\n{d}", self.case);
+        self.report.meet(answer);
+        self.report.count(self.case.size(), difference.map(text));
+    }
+
+    /// `out` and `bytes`, one at a time.
+    fn others(&mut self, call: Call, lent: &Lent, s: &State) {
+        let (bytes, out) = needed(call, s, &lent.file);
+        for length in self.lengths(out) {
+            let lent = Lent::new(&lent.session, &lent.file, ROOM, length);
+            self.expect(call, &lent, length < out);
+        }
+        for length in self.lengths(bytes) {
+            let lent = Lent::new(&lent.session, &lent.file, length, out);
+            self.expect(call, &lent, length < bytes);
+        }
+    }
+
+    /// A session cut short is 9, whatever it holds and however short the others are; words behind it stay.
+    fn session(&mut self, call: Call, s: &State) {
+        let words = [s.words(), filling(9)].concat();
+        for length in self.lengths(WORDS) {
+            let short = length < WORDS;
+            let room = if short {
+                *self.rng.pick(&[0, 1, ROOM])
+            } else {
+                ROOM
+            };
+            let session = match short && self.rng.chance(2) {
+                true => filling(length),
+                false => words[..length].to_vec(),
+            };
+            self.expect(call, &Lent::new(&session, &[], room, room), short);
+        }
+    }
+
+    /// Load tests the file first, then the session's length.
+    fn load(&mut self) {
+        let file = self.case.file.clone();
+        for length in self.lengths(WORDS) {
+            let lent = Lent::new(&filling(length), &file, 0, 0);
+            self.expect(Call::Load, &lent, length < WORDS);
+        }
+        for number in 1..=8 {
+            if let Some(bad) = damage::targeted(&mut self.rng, &file, number) {
+                let length = self.rng.within(0, WORDS - 1);
+                self.expect(Call::Load, &Lent::new(&filling(length), &bad, 0, 0), false);
+            }
+        }
+    }
+}
