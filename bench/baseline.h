@@ -1,0 +1,45 @@
+/* A network as the C baselines hold it, and what they work out of it. Terms as in the specification. */
+#ifndef BASELINE_H
+#define BASELINE_H
+#include <stddef.h>
+#include <stdint.h>
+
+enum { GATES = 40, INPUTS = 10, SIGNALS = 50, OUTPUTS = 8, FANINS = 4, WORDS = 16 };
+
+typedef struct {
+    int n, m, p;
+    int arity[GATES], fanins[GATES][FANINS], outputs[OUTPUTS];
+    unsigned tables[GATES];
+    uint64_t excluded[WORDS]; /* a one means the pattern never comes */
+} Network;
+
+typedef struct {
+    unsigned cdc[GATES], full[GATES], open[GATES];
+    uint64_t odc[GATES][WORDS], hidden[GATES][WORDS];
+} Sets;
+
+typedef struct {
+    int number, first, second; /* 0, or a refusal with the values that it names */
+} Answer;
+
+typedef struct {
+    void (*dont_cares)(const Network *, Sets *); /* CDC, ODC and full table of each gate */
+    void (*compatible)(const Network *, Sets *); /* compatible set and open table of each gate */
+    Answer (*verdict)(const Network *loaded, const Network *replaced);
+} Baseline;
+
+extern const Baseline PLAIN, TUNED;
+
+/* 0, or one of the refusals 1 to 8 */
+int parse(const uint8_t *file, size_t size, Network *net);
+
+/* sets a gate's table in `current`, with the tests 10 to 13 */
+Answer exchange(const Network *loaded, Network *current, const Sets *sets, int gate, uint64_t table);
+
+/* the fan-ins that rule 6 frees at entry t, as bits */
+unsigned free_fanins(int k, unsigned table, unsigned t);
+
+static inline unsigned all_entries(int k) { return (1u << (1 << k)) - 1; }
+static inline int word_count(int n) { return n < 6 ? 1 : 1 << (n - 6); }
+static inline uint64_t live_places(int n) { return n < 6 ? ((uint64_t)1 << (1 << n)) - 1 : ~(uint64_t)0; }
+#endif

@@ -1,0 +1,265 @@
+/* Times the library's calls against the two baselines, on the same random networks in the same run, and prints a table of medians and
+   ratios. Every result is compared before it is timed; a difference ends the run. */
+#include "../include/tusqirma.h"
+#include "baseline.h"
+#include <stdio.h>
+#include <stdlib.h>
+#include <string.h>
+#include <time.h>
+
+enum { CASES = 21, BATCHES = 5 };
+#define FILE_SIZE TUSQIRMA_MOST_FILE
+#define SESSION TUSQIRMA_SESSION_WORDS
+
+/* a network, a question about one of its gates, and room for the answers */
+typedef struct {
+    uint8_t file[FILE_SIZE];
+    size_t size;
+    Network loaded, replaced;
+    Sets sets;
+    uint64_t session[SESSION], out[2 * GATES * WORDS];
+    int gate;
+    uint64_t table;
+    Answer answer;
+} Case;
+
+static uint64_t seed = 1;
+
+static unsigned below(unsigned bound) {
+    seed ^= seed << 13, seed ^= seed >> 7, seed ^= seed << 17;
+    return (unsigned)(seed >> 32) % bound;
+}
+
+/* ## Random networks */
+
+static void put(Case *c, int byte) { c->file[c->size++] = (uint8_t)byte; }
+
+/* the next fan-in: every other one a signal that feeds nothing yet, where there is one */
+static int pick(int signals, uint64_t *unused) {
+    int s = (int)below((unsigned)signals);
+    uint64_t later = *unused >> s << s;
+    if (below(2) && *unused) s = __builtin_ctzll(later ? later : *unused);
+    return s;
+}
+
+static void put_gate(Case *c, int n, int g, int least, uint64_t *unused) {
+    int k = least + (int)below(5 - (unsigned)least), used[FANINS];
+    put(c, 0x4E), put(c, 0x47), put(c, k);
+    for (int r = 0; r < k; r++) {
+        int fresh = 0;
+        while (!fresh) {
+            used[r] = pick(n + g, unused);
+            fresh = 1;
+            for (int q = 0; q < r; q++) fresh &= used[q] != used[r];
+        }
+        put(c, used[r]);
+    }
+    for (int r = 0; r < k; r++) *unused &= ~((uint64_t)1 << used[r]);
+    *unused |= (uint64_t)1 << (n + g);
+    unsigned table = below(65536) & all_entries(k);
+    put(c, table & 255), put(c, table >> 8);
+}
+
+/* m gates of `least` to 4 fan-ins, the last 8 gates as outputs; every other network excludes about one pattern in eight */
+static void make(Case *c, int n, int m, int least, int excludes) {
+    c->size = 0;
+    put(c, 0x4E), put(c, 0x49), put(c, n), put(c, m), put(c, 8);
+    if (excludes) {
+        put(c, 0x4E), put(c, 0x58);
+        int size = n < 3 ? 1 : 1 << (n - 3);
+        for (int i = 0; i < size; i++) put(c, n < 3 ? 0 : (int)(below(256) & below(256) & below(256)));
+    }
+    uint64_t unused = ((uint64_t)1 << n) - 1;
+    for (int g = 0; g < m; g++) put_gate(c, n, g, least, &unused);
+    for (int i = 0; i < 8; i++) put(c, 0x4E), put(c, 0x4F), put(c, n + m - 1 - i % m);
+}
+
+/* ## The calls, each beside the baseline's way to the same answer */
+
+static void die(const char *what) {
+    printf("differs: %s\n", what);
+    exit(1);
+}
+
+static void our_load(Case *c) {
+    if (tusqirma_load(c->file, c->size, c->session, SESSION)) die("load");
+}
+static void base_load(const Baseline *b, Case *c) {
+    if (parse(c->file, c->size, &c->loaded)) die("parse");
+    b->compatible(&c->loaded, &c->sets);
+}
+static void our_listing(Case *c) {
+    uint8_t text[TUSQIRMA_MOST_TEXT];
+    if (tusqirma_listing(c->file, c->size, text, sizeof text, c->out, 1)) die("listing");
+}
+static void our_tables(Case *c) {
+    if (tusqirma_all_tables(c->session, SESSION, c->out, 4 * GATES)) die("tables");
+}
+static void base_tables(const Baseline *b, Case *c) { b->dont_cares(&c->loaded, &c->sets); }
+/* without the text */
+static void base_listing(const Baseline *b, Case *c) {
+    base_load(b, c);
+    base_tables(b, c);
+}
+static void our_sets(Case *c) {
+    if (tusqirma_pattern_sets(c->session, SESSION, c->out, 2 * GATES * WORDS)) die("sets");
+}
+static void our_verdict(Case *c) {
+    uint64_t n = tusqirma_verdict(c->session, SESSION, (size_t)c->gate, c->table, c->out, 2);
+    c->answer = n ? (Answer){(int)n, (int)c->out[0], (int)c->out[1]} : (Answer){0, 0, 0};
+}
+static void base_verdict(const Baseline *b, Case *c) {
+    c->replaced = c->loaded;
+    c->replaced.tables[c->gate - c->loaded.n] = (unsigned)c->table;
+    c->answer = b->verdict(&c->loaded, &c->replaced);
+}
+static void our_exchange(Case *c) {
+    uint64_t n = tusqirma_exchange(c->session, SESSION, (size_t)c->gate, c->table, c->out, 1);
+    c->answer = n ? (Answer){(int)n, (int)c->out[0], 0} : (Answer){0, 0, 0};
+}
+static void base_exchange(const Baseline *b, Case *c) {
+    (void)b;
+    c->answer = exchange(&c->loaded, &c->replaced, &c->sets, c->gate, c->table);
+}
+
+/* ## Questions: a gate and a table that alters one entry of a kind, where the network has one */
+
+static int ask(Case *c, const unsigned *entries, int wanted) {
+    for (int g = 0; g < c->loaded.m; g++)
+        for (int t = 0; t < 1 << c->loaded.arity[g]; t++)
+            if ((int)(entries[g] >> t & 1) == wanted) {
+                c->gate = c->loaded.n + g;
+                c->table = c->loaded.tables[g] ^ 1u << t;
+                if (below(8) == 0) return 1;
+            }
+    return c->gate != 0;
+}
+static int any(Case *c) { return c->size != 0; }
+static int harmless(Case *c) { return ask(c, c->sets.full, 1); }
+static int harmful(Case *c) { return ask(c, c->sets.full, 0); }
+static int allowed(Case *c) { return ask(c, c->sets.open, 1); }
+static int closed(Case *c) { return ask(c, c->sets.open, 0); }
+
+typedef struct {
+    const char *name;
+    int (*question)(Case *);
+    void (*ours)(Case *);
+    void (*base)(const Baseline *, Case *);
+} Task;
+
+static const Task TASKS[] = {
+    {"listing: all of a file", any, our_listing, base_listing},
+    {"load: compatible sets, open tables", any, our_load, base_load},
+    {"all tables: CDC, ODC, full", any, our_tables, base_tables},
+    {"verdict, harmless", harmless, our_verdict, base_verdict},
+    {"verdict, harmful", harmful, our_verdict, base_verdict},
+    {"exchange, accepted", allowed, our_exchange, base_exchange},
+    {"exchange, refused", closed, our_exchange, base_exchange},
+};
+
+/* ## Every result is compared first */
+
+static void same(int holds, const char *what) {
+    if (!holds) die(what);
+}
+
+static void compare_sets(Case *c) {
+    const Network *net = &c->loaded;
+    int words = word_count(net->n);
+    our_tables(c);
+    for (int g = 0; g < net->m; g++) {
+        same(c->out[4 * g + 1] == c->sets.cdc[g], "CDC");
+        same(c->out[4 * g + 2] == c->sets.full[g], "full");
+        same(c->out[4 * g + 3] == c->sets.open[g], "open");
+    }
+    our_sets(c);
+    for (int g = 0; g < net->m; g++) {
+        const uint64_t *own = c->out + 2 * g * words;
+        same(!memcmp(own, c->sets.odc[g], 8 * (size_t)words), "ODC");
+        same(!memcmp(own + words, c->sets.hidden[g], 8 * (size_t)words), "compatible set");
+    }
+}
+
+static void compare_answers(Case *c, const Task *task) {
+    task->ours(c);
+    Answer own = c->answer;
+    task->base(&PLAIN, c);
+    same(!memcmp(&own, &c->answer, sizeof own), task->name);
+    task->base(&TUNED, c);
+    same(!memcmp(&own, &c->answer, sizeof own), task->name);
+}
+
+static void prepare(Case *c, const Task *task) {
+    our_load(c);
+    base_load(&PLAIN, c), base_tables(&PLAIN, c);
+    compare_sets(c);
+    base_load(&TUNED, c), base_tables(&TUNED, c);
+    compare_sets(c);
+    c->gate = 0;
+    c->replaced = c->loaded;
+    if (task->question(c) && c->gate) compare_answers(c, task);
+}
+
+/* ## Time */
+
+static double microseconds(void) {
+    struct timespec t;
+    clock_gettime(CLOCK_MONOTONIC, &t);
+    return (double)t.tv_sec * 1e6 + (double)t.tv_nsec * 1e-3;
+}
+
+static void once(const Task *task, const Baseline *b, Case *c) {
+    if (b) task->base(b, c);
+    else task->ours(c);
+}
+
+/* the best of some batches, each long enough for the clock */
+static double cost(const Task *task, const Baseline *b, Case *c) {
+    double best = 1e18;
+    for (int batch = 0; batch < BATCHES; batch++) {
+        int runs = 0;
+        double began = microseconds(), took;
+        do once(task, b, c), runs++, took = microseconds() - began;
+        while (took < 300);
+        if (took / runs < best) best = took / runs;
+    }
+    return best;
+}
+
+static int by_size(const void *a, const void *b) {
+    double x = *(const double *)a, y = *(const double *)b;
+    return (x > y) - (x < y);
+}
+static double median(double *xs, int count) {
+    qsort(xs, (size_t)count, sizeof *xs, by_size);
+    return xs[count / 2];
+}
+
+static void row(int n, int m, int least, const Task *task) {
+    static Case c;
+    double ours[CASES], plain[CASES], tuned[CASES];
+    int count = 0;
+    seed = 1;
+    for (int i = 0; i < CASES; i++) {
+        make(&c, n, m, least, i % 2);
+        prepare(&c, task);
+        if (task->question != any && !c.gate) continue;
+        ours[count] = cost(task, 0, &c);
+        tuned[count] = cost(task, &TUNED, &c);
+        plain[count++] = cost(task, &PLAIN, &c);
+    }
+    if (!count) return;
+    double o = median(ours, count), p = median(plain, count), t = median(tuned, count);
+    printf("| %d | %d | %s | %s | %.2f | %.2f | %.2f | %.1f | %.2f |\n", n, m, least == 4 ? "4" : "1 to 4", task->name, o, t, p, p / o, o / t);
+    fflush(stdout);
+}
+
+int main(void) {
+    static const int SIZES[][3] = {{10, 40, 1}, {10, 40, 4}, {10, 20, 1}, {10, 10, 1}, {8, 40, 1}, {6, 40, 1}, {4, 40, 1}};
+    if (tusqirma_session_words() != SESSION) die("session words");
+    printf("| n | m | k | task | library, us | tuned C, us | plain C, us | times faster than plain | times the tuned one |\n");
+    printf("|---|---|---|---|---|---|---|---|---|\n");
+    for (size_t s = 0; s < sizeof SIZES / sizeof *SIZES; s++)
+        for (size_t t = 0; t < sizeof TASKS / sizeof *TASKS; t++) row(SIZES[s][0], SIZES[s][1], SIZES[s][2], &TASKS[t]);
+    return 0;
+}
