@@ -33,6 +33,10 @@ extern const Baseline PLAIN, TUNED;
 /* 0, or one of the refusals 1 to 8 */
 int parse(const uint8_t *file, size_t size, Network *net);
 
+/* 0 or 10; 0, 10, 11 or 12 */
+int state_test(const Network *loaded, const Network *current);
+int question_test(const Network *loaded, const Network *current, int gate, uint64_t table);
+
 /* sets a gate's table in `current`, with the tests 10 to 13 */
 Answer exchange(const Network *loaded, Network *current, const Sets *sets, int gate, uint64_t table);
 

@@ -23,11 +23,11 @@ static int counts_fault(const Network *net) {
 }
 
 static int state_fault(const Network *net) {
-    if (counts_fault(net) || excluded_fault(net)) return 10;
+    if (counts_fault(net) || excluded_fault(net)) return 1;
     for (int g = 0; g < net->m; g++)
-        if (gate_fault(net, g)) return 10;
+        if (gate_fault(net, g)) return 1;
     for (int i = 0; i < net->p; i++)
-        if (net->outputs[i] >= net->n + net->m) return 10;
+        if (net->outputs[i] >= net->n + net->m) return 1;
     return 0;
 }
 
@@ -87,11 +87,20 @@ int parse(const uint8_t *file, size_t size, Network *net) {
     return fault ? fault : in.at < in.end ? 8 : 0;
 }
 
-Answer exchange(const Network *loaded, Network *current, const Sets *sets, int gate, uint64_t table) {
+int state_test(const Network *loaded, const Network *current) {
+    return state_fault(loaded) || state_fault(current) ? 10 : 0;
+}
+
+int question_test(const Network *loaded, const Network *current, int gate, uint64_t table) {
     int g = gate - loaded->n;
-    if (state_fault(loaded) || state_fault(current)) return (Answer){10, 0, 0};
-    if (g < 0 || loaded->m <= g) return (Answer){11, 0, 0};
-    if (table & ~(uint64_t)all_entries(loaded->arity[g])) return (Answer){12, 0, 0};
+    if (state_test(loaded, current)) return 10;
+    if (g < 0 || loaded->m <= g) return 11;
+    return table & ~(uint64_t)all_entries(loaded->arity[g]) ? 12 : 0;
+}
+
+Answer exchange(const Network *loaded, Network *current, const Sets *sets, int gate, uint64_t table) {
+    int number = question_test(loaded, current, gate, table), g = gate - loaded->n;
+    if (number) return (Answer){number, 0, 0};
     uint64_t altered = (loaded->tables[g] ^ table) & ~sets->open[g];
     if (altered) return (Answer){13, __builtin_ctzll(altered), 0};
     current->tables[g] = (unsigned)table;

@@ -15,7 +15,7 @@ enum { CASES = 21, BATCHES = 5 };
 typedef struct {
     uint8_t file[FILE_SIZE];
     size_t size;
-    Network loaded, replaced;
+    Network loaded, current, replaced;
     Sets sets;
     uint64_t session[SESSION], out[2 * GATES * WORDS];
     int gate;
@@ -87,6 +87,7 @@ static void our_load(Case *c) {
 static void base_load(const Baseline *b, Case *c) {
     if (parse(c->file, c->size, &c->loaded)) die("parse");
     b->compatible(&c->loaded, &c->sets);
+    c->current = c->loaded;
 }
 static void our_listing(Case *c) {
     uint8_t text[TUSQIRMA_MOST_TEXT];
@@ -95,7 +96,10 @@ static void our_listing(Case *c) {
 static void our_tables(Case *c) {
     if (tusqirma_all_tables(c->session, SESSION, c->out, 4 * GATES)) die("tables");
 }
-static void base_tables(const Baseline *b, Case *c) { b->dont_cares(&c->loaded, &c->sets); }
+static void base_tables(const Baseline *b, Case *c) {
+    if (state_test(&c->loaded, &c->current)) die("state");
+    b->dont_cares(&c->current, &c->sets);
+}
 /* without the text */
 static void base_listing(const Baseline *b, Case *c) {
     base_load(b, c);
@@ -109,7 +113,8 @@ static void our_verdict(Case *c) {
     c->answer = n ? (Answer){(int)n, (int)c->out[0], (int)c->out[1]} : (Answer){0, 0, 0};
 }
 static void base_verdict(const Baseline *b, Case *c) {
-    c->replaced = c->loaded;
+    if (question_test(&c->loaded, &c->current, c->gate, c->table)) die("question");
+    c->replaced = c->current;
     c->replaced.tables[c->gate - c->loaded.n] = (unsigned)c->table;
     c->answer = b->verdict(&c->loaded, &c->replaced);
 }
@@ -119,7 +124,7 @@ static void our_exchange(Case *c) {
 }
 static void base_exchange(const Baseline *b, Case *c) {
     (void)b;
-    c->answer = exchange(&c->loaded, &c->replaced, &c->sets, c->gate, c->table);
+    c->answer = exchange(&c->loaded, &c->current, &c->sets, c->gate, c->table);
 }
 
 /* ## Questions: a gate and a table that alters one entry of a kind, where the network has one */
@@ -196,7 +201,6 @@ static void prepare(Case *c, const Task *task) {
     base_load(&TUNED, c), base_tables(&TUNED, c);
     compare_sets(c);
     c->gate = 0;
-    c->replaced = c->loaded;
     if (task->question(c) && c->gate) compare_answers(c, task);
 }
 

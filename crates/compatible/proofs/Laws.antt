@@ -1,8 +1,8 @@
 -- One turn of the backward walk of rule 5, and one gate of rule 7, over plain variables. Assumes nothing.
 use mathlib.Core.Path.{_≡_, refl, sym, ap, ap₂, _∙_, subst}
-use mathlib.Core.Bool.{Bool, not, _&&_, _||_}
+use mathlib.Core.Bool.{Bool, true, not, _&&_, _||_}
 use mathlib.Core.List.{List, []}
-use Prim.Native.Nat.{ℕ, suc, _+_, _-_, _*_, _^_, _<_}
+use Prim.Native.Nat.{ℕ, suc, _+_, _-_, _*_, _/_, _%_, _^_, _≤_, _<_}
 use native.Mathlib.Numerals.{add-one}
 use native.Mathlib.Omega.{arith}
 use native.Mathlib.Decide.{ℕ-discrete}
@@ -14,14 +14,18 @@ use borrow.Author.Tests.{eq-eqb, ne-eqb}
 use Rattle.bits.specs.Range.{_⇒_, every, any}
 use Rattle.bits.specs.Bit.{bit, tableOf, column, entryAt}
 use Rattle.bits.proofs.BitLaws.{bit-and, bit-or, bit-ones}
-use Rattle.bits.proofs.Ranges.{and-assoc, and-true, every-ext, any-ext, table-ext}
+use Rattle.bits.proofs.Ranges.{and-assoc, and-true, every-ext, any-e, any-i, any-ext, bit-table, table-ext}
 use Rattle.network.specs.Net.{Gate, entry}
 use Rattle.network.specs.Compatible.{agree, edgeSet, compatibleFrom}
 use Rattle.network.specs.Flat.{gateAt, gatesOf}
-use Rattle.network.proofs.Laws.{arity-at, fanin-at, entry-words, gates-from, length-gates}
+use Rattle.network.proofs.Laws.{arity-at, fanin-at, gates-from, length-gates}
 use Rattle.edges.specs.Edges.{Edged}
 use Rattle.edges.proofs.Laws.{edge-at}
-use Rattle.compatible.specs.Words.{outputsLeave, edge, shutIn}
+use Rattle.entries.specs.By.{tableBy}
+use Rattle.entries.proofs.By.{by-none, by-lt, by-more}
+use Rattle.simulate.specs.Simulated.{wordsAt}
+use Rattle.simulate.proofs.RowLaws.{words-at}
+use Rattle.compatible.specs.Words.{outputsLeave, edge, shuts, shutIn, shutsAt, shutBy}
 
 -- one word ANDed: the signals that it is not of keep theirs
 and-at : (hs : List ℕ) (f v x b s : ℕ) (q : Bool) → f < length hs → v ≡ bitAnd (getD hs f 0) x → bit x b ≡ q
@@ -34,9 +38,11 @@ and-at hs f v x b s q h ev ex = go (ℕ-discrete s f)
 
 -- ## What the outputs leave
 
-pub start-first : (outs : List ℕ) (b s : ℕ) (e : Bool) → b < 64 → s < 50 → bit (getD (replicate 50 0xffff_ffff_ffff_ffff) s 0) b ≡ outputsLeave outs 0 e s
+pub start-first : (outs : List ℕ) (w b s : ℕ) (e : Bool) → w < 16 → b < 64 → s < 50
+    → bit (getD (wordsAt (replicate 800 0xffff_ffff_ffff_ffff) w) s 0) b ≡ outputsLeave outs 0 e s
 unfolding outputsLeave
-start-first outs b s e hb hs = rw (getD-replicate {A = ℕ} 50 s 0xffff_ffff_ffff_ffff 0 hs) (bit-ones 64 b hb)
+start-first outs w b s e hw hb hs =
+    rw (words-at (replicate 800 0xffff_ffff_ffff_ffff) w s hs, getD-replicate {A = ℕ} 800 (16 * s + w) 0xffff_ffff_ffff_ffff 0 (omega arith)) (bit-ones 64 b hb)
 
 pub start-step : (hs outs : List ℕ) (i f v keep b s : ℕ) → f < length hs → f ≡ getD outs i 0 → v ≡ bitAnd (getD hs f 0) keep
     → bit (getD hs s 0) b ≡ outputsLeave outs i (bit keep b) s → bit (getD (set hs f v) s 0) b ≡ outputsLeave outs (i + 1) (bit keep b) s
@@ -48,14 +54,14 @@ start-step hs outs i f v keep b s h ef ev ih =
 
 -- ## One fan-in
 
-pub edge-step : (fs es ins hs hs₀ : List ℕ) (k at h r f v e b s : ℕ) → f < length hs → f ≡ getD fs (at + r) 0 → v ≡ bitAnd (getD hs f 0) (bitOr h e)
-    → bit e b ≡ bit (getD es (at + r) 0) (entryAt k ins b)
-    → bit (getD hs s 0) b ≡ (bit (getD hs₀ s 0) b && every r (edge fs es ins k at h b s))
-    → bit (getD (set hs f v) s 0) b ≡ (bit (getD hs₀ s 0) b && every (r + 1) (edge fs es ins k at h b s))
-edge-step fs es ins hs hs₀ k at h r f v e b s l ef ev ee ih =
-    and-at hs f v (bitOr h e) b s (bit h b || bit (getD es (at + r) 0) (entryAt k ins b)) l ev (bit-or h e b ∙ ap (λ (x : Bool). bit h b || x) ee)
-    ∙ ap₂ (λ (x : Bool) (y : ℕ). x && (eqb y s ⇒ (bit h b || bit (getD es (at + r) 0) (entryAt k ins b)))) ih ef
-    ∙ and-assoc (bit (getD hs₀ s 0) b) (every r (edge fs es ins k at h b s)) (edge fs es ins k at h b s r)
+pub edge-step : (fs es hs hs₀ : List ℕ) (g h r f v x y b e s : ℕ) → f < length hs → f ≡ getD fs (6 * g + r) 0 → v ≡ bitAnd (getD hs f 0) x → x ≡ bitOr h y
+    → bit y b ≡ bit (getD es (6 * g + r) 0) e
+    → bit (getD hs s 0) b ≡ (bit (getD hs₀ s 0) b && every r (edge fs es g h b e s))
+    → bit (getD (set hs f v) s 0) b ≡ (bit (getD hs₀ s 0) b && every (r + 1) (edge fs es g h b e s))
+edge-step fs es hs hs₀ g h r f v x y b e s l ef ev ex ey ih =
+    and-at hs f v x b s (bit h b || bit (getD es (6 * g + r) 0) e) l ev (ap (λ (z : ℕ). bit z b) ex ∙ bit-or h y b ∙ ap (λ (z : Bool). bit h b || z) ey)
+    ∙ ap₂ (λ (z : Bool) (i : ℕ). z && (eqb i s ⇒ (bit h b || bit (getD es (6 * g + r) 0) e))) ih ef
+    ∙ and-assoc (bit (getD hs₀ s 0) b) (every r (edge fs es g h b e s)) (edge fs es g h b e s r)
     ∙ rw add-one
 
 -- ## One gate
@@ -65,28 +71,28 @@ module _ (ks fs ts ws : List ℕ) (start : ℕ → Bool) (n m b : ℕ) where
   abbrev pub left : ℕ → ℕ → Bool
   left g s = compatibleFrom start (column ws b) (n + g) (drop g (gatesOf ks fs ts m)) s
 
-  pub gate-step : (es ins hs hs′ : List ℕ) (g k h : ℕ) → g < m → getD ks g 0 ≡ k → h ≡ getD hs (n + g) 0 → n + g < 50
+  pub gate-step : (es hs hs′ : List ℕ) (g h : ℕ) → g < m → h ≡ getD hs (n + g) 0 → n + g < 50
       → Edged ks ts es m
-      → ((r : ℕ) → r < k → getD ins r 0 ≡ getD ws (getD fs (6 * g + r) 0) 0)
       → ((s : ℕ) → s < 50 → bit (getD hs s 0) b ≡ left (g + 1) s)
-      → ((s : ℕ) → bit (getD hs′ s 0) b ≡ (bit (getD hs s 0) b && every k (edge fs es ins k (6 * g) h b s)))
+      → ((s : ℕ) → bit (getD hs′ s 0) b ≡ (bit (getD hs s 0) b && every (getD ks g 0) (edge fs es g h b (entry (column ws b) (gateAt ks fs ts g)) s)))
       → (s : ℕ) → s < 50 → bit (getD hs′ s 0) b ≡ left g s
   unfolding compatibleFrom
-  gate-step es ins hs hs′ g k h lg ek eh ln ed ei ih step s ls =
+  gate-step es hs hs′ g h lg eh ln ed ih step s ls =
       let G = gateAt ks fs ts g in
+      let e = entry (column ws b) G in
       let rest = drop (suc g) (gatesOf ks fs ts m) in
       let later : (i : ℕ) → left (g + 1) i ≡ compatibleFrom start (column ws b) (suc (n + g)) rest i =
       λ i. ap₂ (λ (x y : ℕ). compatibleFrom start (column ws b) x (drop y (gatesOf ks fs ts m)) i) (omega arith) (add-one g) in
       let own : bit h b ≡ compatibleFrom start (column ws b) (suc (n + g)) rest (n + g) = ap (λ (w : ℕ). bit w b) eh ∙ ih (n + g) ln ∙ later (n + g) in
-      let held : ℕ → Bool = λ r. eqb (getD (G .fanins) r 0) s ⇒ edgeSet G (compatibleFrom start (column ws b) (suc (n + g)) rest (n + g)) (entry (column ws b) G) r in
+      let held : ℕ → Bool = λ r. eqb (getD (G .fanins) r 0) s ⇒ edgeSet G (compatibleFrom start (column ws b) (suc (n + g)) rest (n + g)) e r in
       step s
       ∙ ap₂ (λ (x y : Bool). x && y) (ih s ls ∙ later s)
-      (every-ext k (edge fs es ins k (6 * g) h b s) held
+      (every-ext (getD ks g 0) (edge fs es g h b e s) held
       (λ r lr.
-      ap₂ (λ (x : ℕ) (y : Bool). eqb x s ⇒ (bit h b || y)) (sym (fanin-at ks fs ts g r (omega (arith, ek))))
-      (ap₂ bit (ed g lg r (omega (arith, ek))) (entry-words ks fs ts ins ws g k b ek ei) ∙ edge-at ks fs ts (column ws b) g r)
-      ∙ ap (λ (x : Bool). eqb (getD (G .fanins) r 0) s ⇒ edgeSet G x (entry (column ws b) G) r) own)
-      ∙ ap (λ (i : ℕ). every i held) (sym (arity-at ks fs ts g ∙ ek)))
+      ap₂ (λ (x : ℕ) (y : Bool). eqb x s ⇒ (bit h b || y)) (sym (fanin-at ks fs ts g r lr))
+      (ap (λ (t : ℕ). bit t e) (ed g lg r lr) ∙ edge-at ks fs ts (column ws b) g r)
+      ∙ ap (λ (x : Bool). eqb (getD (G .fanins) r 0) s ⇒ edgeSet G x e r) own)
+      ∙ ap (λ (i : ℕ). every i held) (sym (arity-at ks fs ts g)))
       ∙ ap (λ (l : List Gate). compatibleFrom start (column ws b) (n + g) l s) (sym (gates-from ks fs ts m g lg))
 
   pub last : (x : Bool) (s : ℕ) → x ≡ start s → x ≡ left m s
@@ -100,18 +106,58 @@ module _ (ks fs ts ws : List ℕ) (start : ℕ → Bool) (n m b : ℕ) where
 -- ## One gate of rule 7
 
 pub shut-in-is : (ks fs ws hs ins moved : List ℕ) (n live g k keep : ℕ) → k ≡ getD ks g 0
-    → ((r : ℕ) → r < k → getD ins r 0 ≡ getD ws (getD fs (6 * g + r) 0) 0)
-    → ((r : ℕ) → r < k → getD moved r 0 ≡ getD hs (getD fs (6 * g + r) 0) 0)
+    → ((r : ℕ) → r < getD ks g 0 → getD ins r 0 ≡ getD ws (getD fs (6 * g + r) 0) 0)
+    → ((r : ℕ) → r < getD ks g 0 → getD moved r 0 ≡ getD hs (getD fs (6 * g + r) 0) 0)
     → ((b : ℕ) → b < 64 → bit keep b ≡ (bit live b && not (bit (getD hs (n + g) 0) b)))
     → tableOf (2 ^ k) (λ t. any 64 (λ b. bit keep b && agree k (entryAt k moved b) (entryAt k ins b) t)) ≡ shutIn ks fs ws hs n live g
 unfolding shutIn
 shut-in-is ks fs ws hs ins moved n live g k keep ek ei ef kept =
-    table-ext (2 ^ k) (λ t. any 64 (λ b. bit keep b && agree k (entryAt k moved b) (entryAt k ins b) t)) (λ t. any 64 (own k t))
-    (λ t ht. any-ext 64 (λ b. bit keep b && agree k (entryAt k moved b) (entryAt k ins b) t) (own k t)
-    (λ b hb. ap₂ (λ (u v : Bool). u && v) (kept b hb) (ap₂ (λ (f e : ℕ). agree k f e t)
-    (table-ext k (λ r. bit (getD moved r 0) b) (λ r. bit (getD hs (getD fs (6 * g + r) 0) 0) b) (λ r h. ap (λ (w : ℕ). bit w b) (ef r h)))
-    (table-ext k (λ r. bit (getD ins r 0) b) (λ r. bit (getD ws (getD fs (6 * g + r) 0) 0) b) (λ r h. ap (λ (w : ℕ). bit w b) (ei r h))))))
-    ∙ ap (λ (k : ℕ). tableOf (2 ^ k) (λ t. any 64 (own k t))) ek
+    ap (λ (k : ℕ). tableOf (2 ^ k) (λ t. any 64 (λ b. bit keep b && agree k (entryAt k moved b) (entryAt k ins b) t))) ek
+    ∙ table-ext (2 ^ K) (λ t. any 64 (λ b. bit keep b && agree K (entryAt K moved b) (entryAt K ins b) t)) (λ t. any 64 (λ b. bit live b && shuts ks fs ws hs n g t b))
+    (λ t ht. any-ext 64 (λ b. bit keep b && agree K (entryAt K moved b) (entryAt K ins b) t) (λ b. bit live b && shuts ks fs ws hs n g t b)
+    (λ b hb. ap₂ (λ (u v : Bool). u && v) (kept b hb) (ap₂ (λ (f e : ℕ). agree K f e t)
+    (table-ext K (λ r. bit (getD moved r 0) b) (λ r. bit (getD hs (getD fs (6 * g + r) 0) 0) b) (λ r h. ap (λ (w : ℕ). bit w b) (ef r h)))
+    (table-ext K (λ r. bit (getD ins r 0) b) (λ r. bit (getD ws (getD fs (6 * g + r) 0) 0) b) (λ r h. ap (λ (w : ℕ). bit w b) (ei r h))))
+    ∙ and-assoc (bit live b) (not (bit (getD hs (n + g) 0) b)) (agree K (tableOf K (λ r. bit (getD hs (getD fs (6 * g + r) 0) 0) b)) (tableOf K (λ r. bit (getD ws (getD fs (6 * g + r) 0) 0) b)) t)))
   where
-    own : ℕ → ℕ → ℕ → Bool
-    own k t b = (bit live b && not (bit (getD hs (n + g) 0) b)) && agree k (tableOf k (λ r. bit (getD hs (getD fs (6 * g + r) 0) 0) b)) (tableOf k (λ r. bit (getD ws (getD fs (6 * g + r) 0) 0) b)) t
+    K : ℕ
+    K = getD ks g 0
+
+-- ## Rule 7, word after word
+
+-- once all entries are there, the words left add none
+by-all : (K live : ℕ) (q : ℕ → ℕ → Bool) (w W acc : ℕ) → w ≤ W → acc ≡ tableBy K live w q → acc ≡ 2 ^ K - 1 → acc ≡ tableBy K live W q
+by-all K live q w W acc h e f =
+    e ∙ table-ext K (λ t. any w (p t)) (λ t. any W (p t)) (λ t l. let s = there t l in s ∙ sym (still t s))
+  where
+    p : ℕ → ℕ → Bool
+    p t v = any 64 (λ b. bit live b && q t (v * 64 + b))
+
+    there : (t : ℕ) → t < K → any w (p t) ≡ true
+    there t l = sym (bit-table K (λ t. any w (p t)) t l) ∙ ap (λ (x : ℕ). bit x t) (sym e ∙ f) ∙ bit-ones K t l
+
+    still : (t : ℕ) → any w (p t) ≡ true → any W (p t) ≡ true
+    still t s = let r = any-e w (p t) s in any-i W (p t) (r .0) (omega (arith, r .1)) (r .2)
+
+module _ (ks fs rows hs : List ℕ) (n live g : ℕ) where
+  pub shut-first : 0 ≡ shutBy ks fs rows hs n live 0 g
+  unfolding shutBy
+  shut-first = by-none (2 ^ getD ks g 0) live (shutsAt ks fs rows hs n g)
+
+  pub shut-step : (w acc x : ℕ) → acc ≡ shutBy ks fs rows hs n live w g → x ≡ shutIn ks fs (wordsAt rows w) (wordsAt hs w) n live g
+      → bitOr acc x ≡ shutBy ks fs rows hs n live (w + 1) g
+  unfolding shutBy shutIn
+  shut-step w acc x e here =
+      by-more (2 ^ getD ks g 0) live (shutsAt ks fs rows hs n g) w acc x (λ t b. bit live b && shuts ks fs (wordsAt rows w) (wordsAt hs w) n g t b) e here
+      (λ t ht b hb.
+      let i : (w * 64 + b) / 64 ≡ w = omega arith in
+      let j : (w * 64 + b) % 64 ≡ b = omega arith in
+      ap₂ (λ (v c : ℕ). bit live b && shuts ks fs (wordsAt rows v) (wordsAt hs v) n g t c) (sym i) (sym j))
+
+  pub shut-all : (w W acc : ℕ) → w ≤ W → acc ≡ shutBy ks fs rows hs n live w g → acc ≡ 2 ^ 2 ^ getD ks g 0 - 1 → acc ≡ shutBy ks fs rows hs n live W g
+  unfolding shutBy
+  shut-all w W acc h e f = by-all (2 ^ getD ks g 0) live (shutsAt ks fs rows hs n g) w W acc h e f
+
+  pub shut-lt : (W x : ℕ) → x ≡ shutBy ks fs rows hs n live W g → x < 2 ^ 2 ^ getD ks g 0
+  unfolding shutBy
+  shut-lt W x e = by-lt (2 ^ getD ks g 0) live (shutsAt ks fs rows hs n g) W x e

@@ -2,11 +2,10 @@
 use mathlib.Core.Path.{_≡_, refl, sym, ap, ap₂, _∙_}
 use mathlib.Core.Bool.{Bool, false, not, _&&_}
 use mathlib.Core.List.{List, [], _∷_, map}
-use Prim.Native.Nat.{ℕ, zero, suc, _+_, _-_, _*_, _/_, _%_, _^_, _<_}
+use Prim.Native.Nat.{ℕ, suc, _+_, _-_, _*_, _/_, _%_, _^_, _<_}
 use native.Mathlib.Omega.{arith}
 use native.Mathlib.Decide.{ℕ-discrete, decLt}
 use lib.Dec.{eqb, leb, ltb}
-use lib.Bits.{bitOr}
 use lib.ListN.{length, getD, set}
 use lib.Seq.{getD-set-same, getD-set-other, getD-take}
 use borrow.Author.Tests.{le-leb, lt-leb}
@@ -14,17 +13,16 @@ use Rattle.bits.specs.Range.{_⇒_, every, any, places}
 use Rattle.bits.specs.Bit.{bit, number, tableOf, column}
 use Rattle.bits.specs.Cut.{Cut}
 use Rattle.bits.proofs.BitLaws.{bit-zero}
-use Rattle.bits.proofs.Ranges.{and-assoc, every-ext, table-ext, places-at, map-places, column-at, length-places}
+use Rattle.bits.proofs.Ranges.{every-ext, any-ext, table-ext, places-at, map-places, column-at, length-places}
 use Rattle.network.specs.Net.{Gate, Net, arity, gate, noGate, entry, values, excluded, excludedFor}
 use Rattle.network.specs.Compatible.{agree, edgeSet, atOutputs, compatibleFrom, compatible, delivers, closed, openTable}
 use Rattle.network.specs.Flat.{gateAt, gatesOf, netOf}
 use Rattle.network.specs.Valid.{NetOk}
 use Rattle.network.proofs.Laws.{arity-at, entry-at, entry-ext, length-gates}
 use Rattle.network.proofs.Earlier.{gates-at}
-use Rattle.simulate.specs.Simulated.{Simulated}
-use Rattle.entries.specs.By.{tableBy}
-use Rattle.entries.proofs.By.{by-more, by-rest}
-use Rattle.compatible.specs.Words.{outputsLeave, shutIn}
+use Rattle.simulate.specs.Simulated.{Simulated, wordsAt}
+use Rattle.entries.proofs.By.{by-rest}
+use Rattle.compatible.specs.Words.{outputsLeave, CompatibleRows, shuts, shutsAt, shutBy}
 
 -- rule 5 looks at the values through the entries of the gates alone
 from-ext : (d : Gate) (f h : ℕ → Bool) (us vs : List Bool) (gs : List Gate) (j s : ℕ) → ((i : ℕ) → f i ≡ h i)
@@ -67,17 +65,6 @@ module _ (ks fs ts ex outs : List ℕ) (n m p : ℕ) where
   abbrev pub comes : ℕ → ℕ → ℕ → Bool
   comes g t x = not (compatible N (n + g) x) && delivers N (n + g) x t
 
-  -- the entries of gate g that the first w words shut
-  abbrev pub shutBy : ℕ → ℕ → ℕ → ℕ
-  shutBy live w g = tableBy (2 ^ getD ks g 0) live w (comes g)
-
-  pub opened : (L W live g x : ℕ) → g < m → Cut n W L → ((b : ℕ) → bit live b ≡ ltb b L) → x ≡ shutBy live W g
-      → 2 ^ 2 ^ getD ks g 0 - 1 - x ≡ openTable N (n + g)
-  unfolding openTable closed
-  opened L W live g x h cut live-at e =
-      by-rest (2 ^ getD ks g 0) live (comes g) n W L x cut live-at e
-      ∙ ap₂ (λ (k j : ℕ). tableOf (2 ^ k) (λ t. not (any (2 ^ j) (comes g t)))) (sym (ap arity (gate-is g h) ∙ arity-at ks fs ts g)) inputs-is
-
   module _ (ok : NetOk ks fs n m) where
     module _ (ws : List ℕ) (w : ℕ) (sim : Simulated ks fs ts ws n m w) (b : ℕ) (hb : b < 64) where
       abbrev x : ℕ
@@ -119,7 +106,7 @@ module _ (ks fs ts ex outs : List ℕ) (n m p : ℕ) where
 
       -- ## Rule 7 in one word
 
-      module _ (hs : List ℕ) (live : ℕ) (set-at : (s : ℕ) → s < n + m → bit (getD hs s 0) b ≡ compatible N s x) (g : ℕ) (hg : g < m) where
+      module _ (hs : List ℕ) (set-at : (s : ℕ) → s < n + m → bit (getD hs s 0) b ≡ compatible N s x) (g : ℕ) (hg : g < m) where
         movedAt : ℕ
         movedAt = tableOf (getD ks g 0) (λ r. bit (getD hs (getD fs (6 * g + r) 0) 0) b)
 
@@ -137,21 +124,24 @@ module _ (ks fs ts ex outs : List ℕ) (n m p : ℕ) where
             ∙ ap (λ (k : ℕ). agree k (number (map (λ f. compatible N f x) (gateAt ks fs ts g .fanins))) (entry (values N x) (gateAt ks fs ts g)) t) (sym (arity-at ks fs ts g))
             ∙ ap (λ (G : Gate). agree (arity G) (number (map (λ f. compatible N f x) (G .fanins))) (entry (values N x) G) t) (sym (gate-is g hg))
 
-        pub place-shuts : (t : ℕ)
-            → ((bit live b && not (bit (getD hs (n + g) 0) b)) && agree (getD ks g 0) (tableOf (getD ks g 0) (λ r. bit (getD hs (getD fs (6 * g + r) 0) 0) b)) (tableOf (getD ks g 0) (λ r. bit (getD ws (getD fs (6 * g + r) 0) 0) b)) t)
-            ≡ (bit live b && comes g t x)
+        pub shuts-is : (t : ℕ) → shuts ks fs ws hs n g t b ≡ comes g t x
         unfolding movedAt
-        place-shuts t =
-            ap₂ (λ (u v : Bool). (bit live b && not u) && v) (set-at (n + g) (omega arith)) (delivers-is t)
-            ∙ and-assoc (bit live b) (not (compatible N (n + g) x)) (delivers N (n + g) x t)
+        shuts-is t = ap₂ (λ (u v : Bool). not u && v) (set-at (n + g) (omega arith)) (delivers-is t)
 
     -- ## Rule 7 over the words
 
-    pub shut-more : (ws hs : List ℕ) (w live g acc : ℕ) → Simulated ks fs ts ws n m w
-        → ((b : ℕ) → b < 64 → (s : ℕ) → s < n + m → bit (getD hs s 0) b ≡ compatible N s (w * 64 + b)) → g < m
-        → acc ≡ shutBy live w g → bitOr acc (shutIn ks fs ws hs n live g) ≡ shutBy live (w + 1) g
-    unfolding shutIn
-    shut-more ws hs w live g acc sim set-at hg so-far =
-        by-more (2 ^ getD ks g 0) live (comes g) w acc _
-        (λ t b. (bit live b && not (bit (getD hs (n + g) 0) b)) && agree (getD ks g 0) (tableOf (getD ks g 0) (λ r. bit (getD hs (getD fs (6 * g + r) 0) 0) b)) (tableOf (getD ks g 0) (λ r. bit (getD ws (getD fs (6 * g + r) 0) 0) b)) t)
-        so-far refl (λ t ht b hb. place-shuts ws w sim b hb hs live (set-at b hb) g hg t)
+    pub opened : (rows hs : List ℕ) (L W live g x : ℕ) → g < m → Cut n W L → ((b : ℕ) → bit live b ≡ ltb b L) → CompatibleRows ks fs ts ex outs rows hs n m p W
+        → x ≡ shutBy ks fs rows hs n live W g → 2 ^ 2 ^ getD ks g 0 - 1 - x ≡ openTable N (n + g)
+    unfolding shutBy openTable closed
+    opened rows hs L W live g x hg cut live-at found e =
+        by-rest (2 ^ getD ks g 0) live (shutsAt ks fs rows hs n g) n W L x cut live-at e
+        ∙ table-ext (2 ^ getD ks g 0) (λ t. not (any (2 ^ n) (shutsAt ks fs rows hs n g t))) (λ t. not (any (2 ^ n) (comes g t)))
+        (λ t ht. ap not (any-ext (2 ^ n) (shutsAt ks fs rows hs n g t) (comes g t)
+        (λ y hy.
+        let w = y / 64 in
+        let b = y % 64 in
+        let hw = cut .word y hy in
+        let q : w * 64 + b ≡ y = omega arith in
+        shuts-is (wordsAt rows w) w (found .values w hw) b (omega arith) (wordsAt hs w) (found .sets w hw b (omega arith)) g hg t
+        ∙ ap (comes g t) q)))
+        ∙ ap₂ (λ (k j : ℕ). tableOf (2 ^ k) (λ t. not (any (2 ^ j) (comes g t)))) (sym (ap arity (gate-is g hg) ∙ arity-at ks fs ts g)) inputs-is

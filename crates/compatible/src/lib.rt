@@ -1,219 +1,221 @@
-// Rules 5 to 7: compatible sets and open tables, 64 patterns at once.
+// Rules 5 to 7: compatible sets and open tables, 64 patterns a word. Rows as in `simulate`: word w of signal s at place 16 * s + w.
 ghost use mathlib.Core.Path.{_≡_};
-ghost use mathlib.Core.Bool.{Bool, _&&_};
-ghost use Prim.Native.Nat.{ℕ, _+_, _-_, _*_, _^_, _<_, _≤_};
+ghost use mathlib.Core.Bool.{_&&_};
+ghost use mathlib.Core.List.{List};
+ghost use Prim.Native.Nat.{ℕ, _+_, _*_, _<_, _≤_};
 ghost use lib.Bits.{bitAnd, bitOr};
-ghost use lib.ListN.{length, getD};
+ghost use lib.ListN.{length, getD, set};
 ghost use Rattle.bits.specs.Range.{every};
 ghost use Rattle.bits.specs.Bit.{bit, column};
 ghost use Rattle.bits.specs.Cut.{wordCount};
+ghost use Rattle.network.specs.Net.{entry};
 ghost use Rattle.network.specs.Compatible.{compatibleFrom, compatible, compatibleCount, openTable, openTables};
-ghost use Rattle.network.specs.Flat.{gatesOf, netOf, loadedNet, wordOf};
+ghost use Rattle.network.specs.Flat.{gateAt, gatesOf, netOf, loadedNet, wordOf};
 ghost use Rattle.network.specs.Valid.{GateOk, NetOk, OutputsOk};
 ghost use Rattle.network.specs.State.{stateFault};
-ghost use Rattle.edges.specs.Edges.{Edged};
-ghost use Rattle.simulate.specs.Simulated.{Simulated};
-ghost use Rattle.compatible.specs.Words.{outputsLeave, edge, shutIn, perGate, onesIn};
+ghost use Rattle.simulate.specs.Simulated.{wordsAt};
+ghost use Rattle.compatible.specs.Words.{outputsLeave, edge, CompatibleRows, shutIn, shutBy, perGate, onesIn};
 use network::Answer;
 use network::Session;
 
-// Lent as a slice, an array shows its length to a proof: nothing else does of one behind a reference.
-fn count(s: &[u64]) -> usize
-    ensures { λ r. ⌜ r ≡ length (now (s .entry)) ⌝ }
+// The words of signal s.
+fn row_of(rows: &[u64; 800], s: usize, count: usize) -> [u64; 16]
+    requires { ⌜ (s < 50) × (count ≤ 16) ⌝ }
+    ensures { λ l. ⌜ ((w : ℕ) → w < count → getD l w 0 ≡ getD (wordsAt (now (rows .entry)) w) s 0) ⌝ }
 {
-    s.len()
+    let mut l = [0u64; 16];
+    let mut w = 0;
+    while w < count {
+        l[w] = rows[16 * s + w];
+        w += 1;
+    }
+    l
 }
 
-fn long40(words: &[u64; 40])
-    ensures { λ r. ⌜ length (now (words .entry)) ≡ 40 ⌝ }
+// The union of two rows.
+fn union(x: &[u64; 16], y: &[u64; 16], count: usize) -> [u64; 16]
+    requires { ⌜ count ≤ 16 ⌝ }
+    ensures { λ l. ⌜ ((w : ℕ) → w < count → getD l w 0 ≡ bitOr (getD (now (x .entry)) w 0) (getD (now (y .entry)) w 0)) ⌝ }
 {
-    count(words);
+    let mut l = [0u64; 16];
+    let mut w = 0;
+    while w < count {
+        l[w] = x[w] | y[w];
+        w += 1;
+    }
+    l
 }
 
-fn long50(words: &[u64; 50])
-    ensures { λ r. ⌜ length (now (words .entry)) ≡ 50 ⌝ }
+// The set of signal s, intersected with a row.
+fn intersect(hs: &mut [u64; 800], s: usize, row: &[u64; 16], count: usize)
+    requires { ⌜ (s < 50) × (count ≤ 16) ⌝ }
+    requires { ⌜ length (now hs) ≡ 800 ⌝ }
+    ensures { λ _. ⌜ (length (now (hs .exit)) ≡ 800) × ((w : ℕ) → w < count → wordsAt (now (hs .exit)) w ≡ set (wordsAt (now (hs .entry)) w) s (bitAnd (getD (wordsAt (now (hs .entry)) w) s 0) (getD (now (row .entry)) w 0))) ⌝ }
 {
-    count(words);
-}
-
-fn long640(words: &[u64; 640])
-    ensures { λ r. ⌜ length (now (words .entry)) ≡ 640 ⌝ }
-{
-    count(words);
+    let mut w = 0;
+    while w < count {
+        let v = hs[16 * s + w] & row[w];
+        hs[16 * s + w] = v;
+        w += 1;
+    }
 }
 
 // What the outputs leave: all ones, and only the excluded patterns where an output names the signal.
-fn at_outputs(p: usize, outs: &[u8; 8], excluded: u64) -> [u64; 50]
+fn at_outputs(p: usize, outs: &[u8; 8], excluded: &[u64; 16], count: usize) -> [u64; 800]
     requires { ⌜ OutputsOk (now outs) p 50 ⌝ }
-    ensures { λ l. ⌜ (length l ≡ 50) × ((b s : ℕ) → b < 64 → s < 50 → bit (getD l s 0) b ≡ outputsLeave (now (outs .entry)) p (bit excluded b) s) ⌝ }
+    requires { ⌜ count ≤ 16 ⌝ }
+    ensures { λ l. ⌜ (length l ≡ 800) × ((w b s : ℕ) → w < count → b < 64 → s < 50 → bit (getD (wordsAt l w) s 0) b ≡ outputsLeave (now (outs .entry)) p (bit (getD (now (excluded .entry)) w 0) b) s) ⌝ }
 {
-    let mut hs = [0xffff_ffff_ffff_ffffu64; 50];
+    let mut hs = [0xffff_ffff_ffff_ffffu64; 800];
     let mut i = 0;
     while i < p {
         let s = network::place(outs[i]);
-        let v = hs[s] & excluded;
-        hs[s] = v;
+        intersect(&mut hs, s, excluded, count);
         i += 1;
     }
     hs
 }
 
-// One gate's edge sets, taken into the sets of its fan-ins: h is the gate's own set, and at is 6 * g.
+// The edge sets of gate g, taken into the sets of its fan-ins: rows has the values, own the gate's own set.
 fn through_gate(
-    k: usize,
-    at: usize,
-    h: u64,
+    arity: &[u8; 40],
     fanins: &[u8; 240],
     edges: &[u64; 240],
-    ins: &[u64; 6],
-    hs: &mut [u64; 50],
+    rows: &[u64; 800],
+    count: usize,
+    own: &[u64; 16],
+    g: usize,
+    hs: &mut [u64; 800],
 )
-    requires { ⌜ ((1 ≤ k) × (k ≤ 4)) × (at + 6 ≤ 240) ⌝ }
-    requires { ⌜ ((r : ℕ) → r < k → getD (now fanins) (at + r) 0 < 50) ⌝ }
-    ensures { λ _. ⌜ (length (now (hs .exit)) ≡ 50) × ((b s : ℕ) → b < 64 → bit (getD (now (hs .exit)) s 0) b ≡ (bit (getD (now (hs .entry)) s 0) b && every k (edge (now (fanins .entry)) (now (edges .entry)) (now (ins .entry)) k at h b s))) ⌝ }
+    requires { ⌜ (g < 40) × (count ≤ 16) ⌝ }
+    requires { ⌜ GateOk (now arity) (now fanins) g 50 ⌝ }
+    requires { ⌜ length (now hs) ≡ 800 ⌝ }
+    ensures { λ _. ⌜ (length (now (hs .exit)) ≡ 800) × ((ts : List ℕ) (w b s : ℕ) → w < count → b < 64 → bit (getD (wordsAt (now (hs .exit)) w) s 0) b ≡ (bit (getD (wordsAt (now (hs .entry)) w) s 0) b && every (getD (now (arity .entry)) g 0) (edge (now (fanins .entry)) (now (edges .entry)) g (getD (now (own .entry)) w 0) b (entry (column (wordsAt (now (rows .entry)) w) b) (gateAt (now (arity .entry)) (now (fanins .entry)) ts g)) s))) ⌝ }
 {
-    long50(hs);
+    let k = network::place(arity[g]);
     let mut r = 0;
     while r < k {
-        let e = bits::lut(k, edges[at + r], ins);
-        let f = network::place(fanins[at + r]);
-        let v = hs[f] & (h | e);
-        hs[f] = v;
+        let free = simulate::lut_row(edges[6 * g + r], arity, fanins, rows, count, g);
+        let edge = union(own, &free, count);
+        let f = simulate::fanin(fanins, g, r);
+        intersect(hs, f, &edge, count);
         r += 1;
     }
 }
 
-// Rule 5 of all signals in one word, from the last gate to the first: words has their values.
+// Rule 5 of all signals, from the last gate to the first: rows has their values.
 fn intersected(
     n: usize,
     m: usize,
     arity: &[u8; 40],
     fanins: &[u8; 240],
     tables: &[u64; 40],
-    edges: &[u64; 240],
+    excluded: &[u64; 16],
     p: usize,
     outs: &[u8; 8],
-    excluded: u64,
-    words: &[u64; 50],
-) -> [u64; 50]
+    rows: &[u64; 800],
+    count: usize,
+) -> [u64; 800]
     requires { ⌜ NetOk (now arity) (now fanins) n m ⌝ }
     requires { ⌜ OutputsOk (now outs) p 50 ⌝ }
-    requires { ⌜ Edged (now arity) (now tables) (now edges) m ⌝ }
-    ensures { λ l. ⌜ (length l ≡ 50) × ((b s : ℕ) → b < 64 → s < 50 → bit (getD l s 0) b ≡ compatibleFrom (outputsLeave (now (outs .entry)) p (bit excluded b)) (column (now (words .entry)) b) n (gatesOf (now (arity .entry)) (now (fanins .entry)) (now (tables .entry)) m) s) ⌝ }
+    requires { ⌜ count ≤ 16 ⌝ }
+    ensures { λ l. ⌜ (length l ≡ 800) × ((w b s : ℕ) → w < count → b < 64 → s < 50 → bit (getD (wordsAt l w) s 0) b ≡ compatibleFrom (outputsLeave (now (outs .entry)) p (bit (getD (now (excluded .entry)) w 0) b)) (column (wordsAt (now (rows .entry)) w) b) n (gatesOf (now (arity .entry)) (now (fanins .entry)) (now (tables .entry)) m) s) ⌝ }
 {
-    let mut hs = at_outputs(p, outs, excluded);
+    let edges = edges::edge_tables(m, arity, tables);
+    let mut hs = at_outputs(p, outs, excluded, count);
     let mut g = m;
     while 0 < g {
         g -= 1;
-        let k = network::place(arity[g]);
-        let ins = simulate::gather(fanins, words, 6 * g, k);
-        let h = hs[n + g];
-        through_gate(k, 6 * g, h, fanins, edges, &ins, &mut hs);
+        let own = row_of(&hs, n + g, count);
+        through_gate(arity, fanins, &edges, rows, count, &own, g, &mut hs);
     }
     hs
 }
 
-// H of each signal in word w, an input's empty: words has the values.
-fn word_sets(
+// The rows of the values and of H.
+struct SignalRows {
+    values: [u64; 800],
+    sets: [u64; 800],
+}
+
+// The values and H of all signals, an input's empty.
+fn compatible_rows(
     n: usize,
     m: usize,
     arity: &[u8; 40],
     fanins: &[u8; 240],
     tables: &[u64; 40],
-    edges: &[u64; 240],
     excluded: &[u64; 16],
     p: usize,
     outs: &[u8; 8],
-    w: usize,
-    words: &[u64; 50],
-) -> [u64; 50]
+    count: usize,
+) -> SignalRows
     requires { ⌜ NetOk (now arity) (now fanins) n m ⌝ }
     requires { ⌜ OutputsOk (now outs) p 50 ⌝ }
-    requires { ⌜ Edged (now arity) (now tables) (now edges) m ⌝ }
-    requires { ⌜ w < 16 ⌝ }
-    requires { ⌜ Simulated (now arity) (now fanins) (now tables) (now words) n m w ⌝ }
-    ensures { λ l. ⌜ ((b : ℕ) → b < 64 → (s : ℕ) → s < n + m → bit (getD l s 0) b ≡ compatible (netOf (now (arity .entry)) (now (fanins .entry)) (now (tables .entry)) n m (now (excluded .entry)) (now (outs .entry)) p) s (w * 64 + b)) ⌝ }
+    requires { ⌜ count ≤ 16 ⌝ }
+    ensures { λ r. ⌜ CompatibleRows (now (arity .entry)) (now (fanins .entry)) (now (tables .entry)) (now (excluded .entry)) (now (outs .entry)) (r .values) (r .sets) n m p count ⌝ }
 {
-    let mut hs = intersected(
-        n,
-        m,
-        arity,
-        fanins,
-        tables,
-        edges,
-        p,
-        outs,
-        excluded[w],
-        words,
-    );
+    let rows = simulate::rows(n, m, arity, fanins, tables, count);
+    let mut hs = intersected(n, m, arity, fanins, tables, excluded, p, outs, &rows, count);
+    let empty = [0u64; 16];
     let mut i = 0;
     while i < n {
-        hs[i] = 0;
+        simulate::store_row(&mut hs, i, &empty, count);
         i += 1;
     }
-    hs
+    SignalRows {
+        values: rows,
+        sets: hs,
+    }
 }
 
-// Rule 7 in one word: the entries of gate g that a place of live, outside the gate's own set, delivers.
+// Rule 7 in word w: the entries of gate g that a place of live, outside the gate's own set, delivers.
 fn shut_in(
     n: usize,
     arity: &[u8; 40],
     fanins: &[u8; 240],
-    words: &[u64; 50],
-    hs: &[u64; 50],
+    rows: &[u64; 800],
+    hs: &[u64; 800],
     live: u64,
     g: usize,
+    w: usize,
 ) -> u64
-    requires { ⌜ (n ≤ 10) × (g < 40) ⌝ }
+    requires { ⌜ (n ≤ 10) × (g < 40) × (w < 16) ⌝ }
     requires { ⌜ GateOk (now arity) (now fanins) g 50 ⌝ }
-    ensures { λ r. ⌜ r ≡ shutIn (now (arity .entry)) (now (fanins .entry)) (now (words .entry)) (now (hs .entry)) n live g ⌝ }
+    ensures { λ r. ⌜ r ≡ shutIn (now (arity .entry)) (now (fanins .entry)) (wordsAt (now (rows .entry)) w) (wordsAt (now (hs .entry)) w) n live g ⌝ }
 {
-    let k = network::place(arity[g]);
-    let ins = simulate::gather(fanins, words, 6 * g, k);
-    let moved = simulate::gather(fanins, hs, 6 * g, k);
-    let keep = live & bits::invert(hs[n + g]);
-    entries::reach(k, &ins, &moved, keep)
+    let ins = simulate::gather_at(arity, fanins, rows, g, w);
+    let moved = simulate::gather_at(arity, fanins, hs, g, w);
+    let keep = live & bits::invert(hs[16 * (n + g) + w]);
+    entries::reach(network::place(arity[g]), &ins, &moved, keep)
 }
 
-// What a word shuts, added for each gate.
-fn shut_word(
+// The same in all words. Once all entries are delivered, the words left add none.
+fn shut(
     n: usize,
-    m: usize,
     arity: &[u8; 40],
     fanins: &[u8; 240],
-    words: &[u64; 50],
-    hs: &[u64; 50],
+    rows: &[u64; 800],
+    hs: &[u64; 800],
     live: u64,
-    shut: &mut [u64; 40],
-)
-    requires { ⌜ NetOk (now arity) (now fanins) n m ⌝ }
-    ensures { λ _. ⌜ (length (now (shut .exit)) ≡ 40) × ((g : ℕ) → g < m → getD (now (shut .exit)) g 0 ≡ bitOr (getD (now (shut .entry)) g 0) (shutIn (now (arity .entry)) (now (fanins .entry)) (now (words .entry)) (now (hs .entry)) n live g)) ⌝ }
+    count: usize,
+    g: usize,
+) -> u64
+    requires { ⌜ (n ≤ 10) × (g < 40) × (count ≤ 16) ⌝ }
+    requires { ⌜ GateOk (now arity) (now fanins) g 50 ⌝ }
+    ensures { λ r. ⌜ r ≡ shutBy (now (arity .entry)) (now (fanins .entry)) (now (rows .entry)) (now (hs .entry)) n live count g ⌝ }
 {
-    long40(shut);
-    let mut g = 0;
-    while g < m {
-        let e = shut_in(n, arity, fanins, words, hs, live, g);
-        let v = shut[g] | e;
-        shut[g] = v;
-        g += 1;
+    let all = bits::mask(entries::entry_count(network::place(arity[g])));
+    let mut acc: u64 = 0;
+    let mut w = 0;
+    while w < count {
+        if acc == all {
+            return acc;
+        }
+        acc = acc | shut_in(n, arity, fanins, rows, hs, live, g, w);
+        w += 1;
     }
-}
-
-// The complement of each gate's table in its entries.
-fn complements(m: usize, arity: &[u8; 40], shut: &[u64; 40]) -> [u64; 40]
-    requires { ⌜ m ≤ 40 ⌝ }
-    requires { ⌜ ((g : ℕ) → g < m → (getD (now arity) g 0 ≤ 4) × (getD (now shut) g 0 < 2 ^ 2 ^ getD (now arity) g 0)) ⌝ }
-    ensures { λ r. ⌜ r ≡ perGate m (λ g. 2 ^ 2 ^ getD (now (arity .entry)) g 0 - 1 - getD (now (shut .entry)) g 0) ⌝ }
-{
-    let mut tables = [0u64; 40];
-    let mut g = 0;
-    while g < m {
-        let k = network::place(arity[g]);
-        let v = bits::rest(entries::entry_count(k), shut[g]);
-        tables[g] = v;
-        g += 1;
-    }
-    tables
+    acc
 }
 
 // The open tables of all gates.
@@ -231,42 +233,32 @@ fn open_of(
     requires { ⌜ OutputsOk (now outs) p 50 ⌝ }
     ensures { λ r. ⌜ r ≡ perGate m (λ g. openTable (netOf (now (arity .entry)) (now (fanins .entry)) (now (tables .entry)) n m (now (excluded .entry)) (now (outs .entry)) p) (n + g)) ⌝ }
 {
-    let edges = edges::edge_tables(m, arity, tables);
     let z = bits::size(n);
     let live = bits::mask(z.places);
-    let most = z.words;
-    let mut shut = [0u64; 40];
-    let mut w = 0;
-    while w < most {
-        let words = simulate::words(n, m, arity, fanins, tables, w as u64);
-        let hs = word_sets(
-            n,
-            m,
-            arity,
-            fanins,
-            tables,
-            &edges,
-            excluded,
-            p,
-            outs,
-            w,
-            &words,
-        );
-        shut_word(n, m, arity, fanins, &words, &hs, live, &mut shut);
-        w += 1;
+    let count = z.words;
+    let r = compatible_rows(n, m, arity, fanins, tables, excluded, p, outs, count);
+    let rows = r.values;
+    let hs = r.sets;
+    let mut opens = [0u64; 40];
+    let mut g = 0;
+    while g < m {
+        let c = entries::entry_count(network::place(arity[g]));
+        let v = bits::rest(c, shut(n, arity, fanins, &rows, &hs, live, count, g));
+        opens[g] = v;
+        g += 1;
     }
-    complements(m, arity, &shut)
+    opens
 }
 
 // H of each gate in word w, put in its place, spare bits zero.
-fn store_word(n: usize, m: usize, hs: &[u64; 50], live: u64, w: usize, sets: &mut [u64; 640])
+fn store_word(n: usize, m: usize, hs: &[u64; 800], live: u64, w: usize, sets: &mut [u64; 640])
     requires { ⌜ (n ≤ 10) × (m ≤ 40) × (w < 16) ⌝ }
-    ensures { λ _. ⌜ (length (now (sets .exit)) ≡ 640) × ((g : ℕ) → g < m → getD (now (sets .exit)) (16 * g + w) 0 ≡ bitAnd live (getD (now (hs .entry)) (n + g) 0)) × ((g v : ℕ) → v < w → getD (now (sets .exit)) (16 * g + v) 0 ≡ getD (now (sets .entry)) (16 * g + v) 0) ⌝ }
+    requires { ⌜ length (now sets) ≡ 640 ⌝ }
+    ensures { λ _. ⌜ (length (now (sets .exit)) ≡ 640) × ((g : ℕ) → g < m → getD (now (sets .exit)) (16 * g + w) 0 ≡ bitAnd live (getD (wordsAt (now (hs .entry)) w) (n + g) 0)) × ((g v : ℕ) → v < w → getD (now (sets .exit)) (16 * g + v) 0 ≡ getD (now (sets .entry)) (16 * g + v) 0) ⌝ }
 {
-    long640(sets);
     let mut g = 0;
     while g < m {
-        let v = live & hs[n + g];
+        let v = live & hs[16 * (n + g) + w];
         sets[16 * g + w] = v;
         g += 1;
     }
@@ -287,27 +279,14 @@ fn sets_of(
     requires { ⌜ OutputsOk (now outs) p 50 ⌝ }
     ensures { λ l. ⌜ ((g w : ℕ) → g < m → w < wordCount n → getD l (16 * g + w) 0 ≡ wordOf n (compatible (netOf (now (arity .entry)) (now (fanins .entry)) (now (tables .entry)) n m (now (excluded .entry)) (now (outs .entry)) p) (n + g)) w) ⌝ }
 {
-    let edges = edges::edge_tables(m, arity, tables);
     let z = bits::size(n);
     let live = bits::mask(z.places);
-    let most = z.words;
+    let count = z.words;
+    let r = compatible_rows(n, m, arity, fanins, tables, excluded, p, outs, count);
+    let hs = r.sets;
     let mut sets = [0u64; 640];
     let mut w = 0;
-    while w < most {
-        let words = simulate::words(n, m, arity, fanins, tables, w as u64);
-        let hs = word_sets(
-            n,
-            m,
-            arity,
-            fanins,
-            tables,
-            &edges,
-            excluded,
-            p,
-            outs,
-            w,
-            &words,
-        );
+    while w < count {
         store_word(n, m, &hs, live, w, &mut sets);
         w += 1;
     }

@@ -1,5 +1,5 @@
 -- Rows of words, over plain lists: one turn of the loops that fill them, and what one word number of all rows is. Assumes nothing.
-use mathlib.Core.Path.{_≡_, sym, ap, _∙_}
+use mathlib.Core.Path.{_≡_, refl, sym, ap, ap₂, _∙_}
 use mathlib.Core.Bool.{Bool, false}
 use mathlib.Core.List.{List, map}
 use Prim.Native.Nat.{ℕ, _+_, _*_, _≤_, _<_}
@@ -57,25 +57,27 @@ module _ (rows : List ℕ) (s i v : ℕ) (hi : i < 16) where
           words-at (set rows (16 * s + i) v) i q h ∙ getD-set-other rows (16 * s + i) (16 * q + i) v 0 (λ e. n (omega arith))
           ∙ sym (words-at rows i q h) ∙ sym (getD-set-other (wordsAt rows i) s q v 0 n)
 
--- the first i words of a row are stored
-abbrev pub Stored : (rows₀ rows row : List ℕ) (s i : ℕ) → Type 0
-Stored rows₀ rows row s i =
+-- row s has its first i words as p says, and the rest as they were
+abbrev pub Stored : (rows₀ rows : List ℕ) (p : ℕ → ℕ) (s i : ℕ) → Type 0
+Stored rows₀ rows p s i =
     (length rows ≡ 800)
-    × ((w : ℕ) → w < i → wordsAt rows w ≡ set (wordsAt rows₀ w) s (getD row w 0))
+    × ((w : ℕ) → w < i → wordsAt rows w ≡ set (wordsAt rows₀ w) s (p w))
     × ((w : ℕ) → i ≤ w → w < 16 → wordsAt rows w ≡ wordsAt rows₀ w)
 
-pub store-step : (rows₀ rows row : List ℕ) (s i : ℕ) → s < 50 → i < 16 → Stored rows₀ rows row s i
-    → Stored rows₀ (set rows (16 * s + i) (getD row i 0)) row s (i + 1)
-store-step rows₀ rows row s i hs hi c = (
+pub store-first : (rows : List ℕ) (p : ℕ → ℕ) (s : ℕ) → length rows ≡ 800 → Stored rows rows p s 0
+store-first rows p s h = (h, λ w l. absurd (omega arith), λ w l k. refl)
+
+pub store-step : (rows₀ rows : List ℕ) (p : ℕ → ℕ) (s i v : ℕ) → s < 50 → i < 16 → Stored rows₀ rows p s i → v ≡ p i
+    → Stored rows₀ (set rows (16 * s + i) v) p s (i + 1)
+store-step rows₀ rows p s i v hs hi c ev = (
   simp length-set (c .0),
   λ w h. done w h (ℕ-discrete w i),
-  λ w h l. other-word rows s i (getD row i 0) hi w l (λ e. absurd (omega arith)) ∙ c .2 w (omega arith) l,
+  λ w h l. other-word rows s i v hi w l (λ e. absurd (omega arith)) ∙ c .2 w (omega arith) l,
 )
   where
-    done : (w : ℕ) → w < i + 1 → Dec (w ≡ i) → wordsAt (set rows (16 * s + i) (getD row i 0)) w ≡ set (wordsAt rows₀ w) s (getD row w 0)
-    done w h (yes e) =
-        rw e (own-word rows s i (getD row i 0) hi hs (c .0) ∙ ap (λ (l : List ℕ). set l s (getD row i 0)) (c .2 i (omega arith) hi))
-    done w h (no n) = other-word rows s i (getD row i 0) hi w (omega arith) n ∙ c .1 w (omega arith)
+    done : (w : ℕ) → w < i + 1 → Dec (w ≡ i) → wordsAt (set rows (16 * s + i) v) w ≡ set (wordsAt rows₀ w) s (p w)
+    done w h (yes e) = rw e (own-word rows s i v hi hs (c .0) ∙ ap₂ (λ (l : List ℕ) (x : ℕ). set l s x) (c .2 i (omega arith) hi) ev)
+    done w h (no n) = other-word rows s i v hi w (omega arith) n ∙ c .1 w (omega arith)
 
 -- the entry that the values of a gate's fan-ins pick
 pub entry-row : (ks fs ts rows ss : List ℕ) (g w b : ℕ) → GateOk ks fs g 50 → ss ≡ faninsAt ks fs g

@@ -1,4 +1,4 @@
-// The values of all signals, 64 patterns at once.
+// The values of all signals, 64 patterns a word. Row s holds the words of signal s: word w stands at place 16 * s + w.
 ghost use mathlib.Core.Path.{_≡_};
 ghost use mathlib.Core.Bool.{true, not};
 ghost use mathlib.Core.List.{List, [], _∷_};
@@ -10,88 +10,9 @@ ghost use Rattle.network.specs.Net.{entry};
 ghost use Rattle.network.specs.DontCares.{runInverted};
 ghost use Rattle.network.specs.Flat.{gateAt, gatesOf};
 ghost use Rattle.network.specs.Valid.{GateOk, NetOk};
-ghost use Rattle.simulate.specs.Simulated.{Inputs, Simulated, wordsAt, valueAt, Rows, Masked, Inverted};
+ghost use Rattle.simulate.specs.Simulated.{Inputs, wordsAt, valueAt, Rows, Masked, Inverted};
 
-// The word of the signal that stands at place p of the fan-ins.
-fn signal(fanins: &[u8; 240], words: &[u64; 50], p: usize) -> u64
-    requires { ⌜ p < 240 ⌝ }
-    requires { ⌜ getD (now fanins) p 0 < 50 ⌝ }
-    ensures { λ r. ⌜ r ≡ getD (now (words .entry)) (getD (now (fanins .entry)) p 0) 0 ⌝ }
-{
-    let f = network::place(fanins[p]);
-    words[f]
-}
-
-// The words of the k signals that stand at place p of the fan-ins and on.
-pub fn gather(fanins: &[u8; 240], words: &[u64; 50], p: usize, k: usize) -> [u64; 6]
-    requires { ⌜ (p + 6 ≤ 240) × (k ≤ 6) ⌝ }
-    requires { ⌜ ((r : ℕ) → r < k → getD (now fanins) (p + r) 0 < 50) ⌝ }
-    ensures { λ l. ⌜ ((r : ℕ) → r < k → getD l r 0 ≡ getD (now (words .entry)) (getD (now (fanins .entry)) (p + r) 0) 0) ⌝ }
-{
-    let mut ins = [0u64; 6];
-    let mut r = 0;
-    while r < k {
-        let v = signal(fanins, words, p + r);
-        ins[r] = v;
-        r += 1;
-    }
-    ins
-}
-
-// The word of gate g, from the words of the signals before it.
-pub fn gate_word(
-    arity: &[u8; 40],
-    fanins: &[u8; 240],
-    tables: &[u64; 40],
-    words: &[u64; 50],
-    g: usize,
-) -> u64
-    requires { ⌜ g < 40 ⌝ }
-    requires { ⌜ GateOk (now arity) (now fanins) g 50 ⌝ }
-    ensures { λ r. ⌜ ((b : ℕ) → b < 64 → bit r b ≡ bit (getD (now (tables .entry)) g 0) (entry (column (now (words .entry)) b) (gateAt (now (arity .entry)) (now (fanins .entry)) (now (tables .entry)) g))) ⌝ }
-{
-    let k = network::place(arity[g]);
-    let ins = gather(fanins, words, 6 * g, k);
-    bits::lut(k, tables[g], &ins)
-}
-
-// The words of the n inputs at the patterns 64 * w + b.
-fn input_words(n: usize, w: u64) -> [u64; 50]
-    requires { ⌜ n ≤ 10 ⌝ }
-    ensures { λ r. ⌜ (length r ≡ 50) × Inputs r n w ⌝ }
-{
-    let mut words = [0u64; 50];
-    let mut i = 0;
-    while i < n {
-        words[i] = bits::input_word(i, w);
-        i += 1;
-    }
-    words
-}
-
-// The words of all signals at the patterns 64 * w + b: the inputs', then the gates'.
-pub fn words(
-    n: usize,
-    m: usize,
-    arity: &[u8; 40],
-    fanins: &[u8; 240],
-    tables: &[u64; 40],
-    w: u64,
-) -> [u64; 50]
-    requires { ⌜ NetOk (now arity) (now fanins) n m ⌝ }
-    ensures { λ r. ⌜ Simulated (now (arity .entry)) (now (fanins .entry)) (now (tables .entry)) r n m w ⌝ }
-{
-    let mut words = input_words(n, w);
-    let mut g = 0;
-    while g < m {
-        let v = gate_word(arity, fanins, tables, &words, g);
-        words[n + g] = v;
-        g += 1;
-    }
-    words
-}
-
-// All words at once: row s holds the words of signal s. The words of a gate, by the table t from the rows of its fan-ins.
+// The table t at the rows of one to four signals.
 fn row1(t: u64, rows: &[u64; 800], count: usize, a: usize) -> [u64; 16]
     requires { ⌜ count ≤ 16 ⌝ }
     requires { ⌜ (a < 50) ⌝ }
@@ -163,27 +84,26 @@ fn row4(
 }
 
 // Fan-in r of gate g.
-fn fanin(fanins: &[u8; 240], g: usize, r: usize) -> usize
+pub fn fanin(fanins: &[u8; 240], g: usize, r: usize) -> usize
     requires { ⌜ (g < 40) × (r < 6) ⌝ }
     ensures { λ s. ⌜ s ≡ getD (now (fanins .entry)) (6 * g + r) 0 ⌝ }
 {
     network::place(fanins[6 * g + r])
 }
 
-// The words of gate g, from the rows of the signals before it.
-pub fn gate_row(
+// The table t at the rows of the fan-ins of gate g.
+pub fn lut_row(
+    t: u64,
     arity: &[u8; 40],
     fanins: &[u8; 240],
-    tables: &[u64; 40],
     rows: &[u64; 800],
     count: usize,
     g: usize,
 ) -> [u64; 16]
     requires { ⌜ (g < 40) × (count ≤ 16) ⌝ }
     requires { ⌜ GateOk (now arity) (now fanins) g 50 ⌝ }
-    ensures { λ l. ⌜ ((w b : ℕ) → w < count → b < 64 → bit (getD l w 0) b ≡ bit (getD (now (tables .entry)) g 0) (entry (column (wordsAt (now (rows .entry)) w) b) (gateAt (now (arity .entry)) (now (fanins .entry)) (now (tables .entry)) g))) ⌝ }
+    ensures { λ l. ⌜ ((ts : List ℕ) (w b : ℕ) → w < count → b < 64 → bit (getD l w 0) b ≡ bit t (entry (column (wordsAt (now (rows .entry)) w) b) (gateAt (now (arity .entry)) (now (fanins .entry)) ts g))) ⌝ }
 {
-    let t = tables[g];
     let k = network::place(arity[g]);
     let a = fanin(fanins, g, 0);
     if k == 1 {
@@ -199,6 +119,22 @@ pub fn gate_row(
     }
     let d = fanin(fanins, g, 3);
     row4(t, rows, count, a, b, c, d)
+}
+
+// The words of gate g, from the rows of the signals before it.
+fn gate_row(
+    arity: &[u8; 40],
+    fanins: &[u8; 240],
+    tables: &[u64; 40],
+    rows: &[u64; 800],
+    count: usize,
+    g: usize,
+) -> [u64; 16]
+    requires { ⌜ (g < 40) × (count ≤ 16) ⌝ }
+    requires { ⌜ GateOk (now arity) (now fanins) g 50 ⌝ }
+    ensures { λ l. ⌜ ((w b : ℕ) → w < count → b < 64 → bit (getD l w 0) b ≡ bit (getD (now (tables .entry)) g 0) (entry (column (wordsAt (now (rows .entry)) w) b) (gateAt (now (arity .entry)) (now (fanins .entry)) (now (tables .entry)) g))) ⌝ }
+{
+    lut_row(tables[g], arity, fanins, rows, count, g)
 }
 
 // Word w of each fan-in of gate g.
@@ -239,7 +175,7 @@ fn input_row(i: usize, count: usize) -> [u64; 16]
 }
 
 // Signal s gets the words of a row.
-fn store_row(rows: &mut [u64; 800], s: usize, row: &[u64; 16], count: usize)
+pub fn store_row(rows: &mut [u64; 800], s: usize, row: &[u64; 16], count: usize)
     requires { ⌜ (s < 50) × (count ≤ 16) ⌝ }
     requires { ⌜ length (now rows) ≡ 800 ⌝ }
     ensures { λ _. ⌜ (length (now (rows .exit)) ≡ 800) × ((w : ℕ) → w < count → wordsAt (now (rows .exit)) w ≡ set (wordsAt (now (rows .entry)) w) s (getD (now (row .entry)) w 0)) ⌝ }

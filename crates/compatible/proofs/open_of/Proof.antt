@@ -1,96 +1,112 @@
 -- `compatible::open_of` meets its contract. Assumes nothing.
 use borrow.Author.Needs.{needs}
-use mathlib.Core.Path.{_≡_, ap, _∙_}
+use mathlib.Core.Path.{_≡_, refl, sym, ap, _∙_, subst}
 use Prim.Native.Nat.{ℕ, _+_, _-_, _^_, _≤_, _<_}
 use native.Mathlib.Omega.{arith}
-use lib.ListN.{getD, getD-replicate}
+use lib.ListN.{length, replicate, length-set}
 use denote.Ref.{now}
-use Rattle.edges.specs.Edges.{Edged}
+use Rattle.bits.proofs.Ranges.{Changed, unchanged, changed-step}
 use Rattle.network.specs.Compatible.{openTable}
 use Rattle.network.specs.Flat.{netOf}
-use Rattle.entries.proofs.By.{by-none, by-lt}
-use Rattle.compatible.proofs.Sets.{comes, shutBy, shut-more, opened}
-use Rattle.compatible.proofs.Stores.{per-gate-ext}
+use Rattle.network.specs.Valid.{GateOk}
+use Rattle.simulate.proofs.Laws.{later}
+use Rattle.compatible.proofs.Laws.{shut-lt}
+use Rattle.compatible.proofs.Sets.{opened}
+use Rattle.compatible.proofs.Stores.{per-gate}
 use Rattle.compatible.proofs.open_of.Statement.{statement}
 use Rattle.compatible.proofs.open_of.Tie as tie
 
 abbrev Inv-loop : tie.InvT-loop
-Inv-loop n m arity fanins tables excluded p outs edges live most shut₀ w₀ shut w =
-    (w ≤ most) × Edged arity tables edges m
-    × ((g : ℕ) → g < m → getD shut g 0 ≡ shutBy arity fanins tables excluded outs n m p live w g)
+Inv-loop n m arity fanins tables excluded p outs live count rows hs opens₀ g₀ opens g =
+    (g ≤ m) × (length opens ≡ 40) × Changed (λ q v. openTable (netOf arity fanins tables n m excluded outs p) (n + q)) (replicate 40 0) opens g
 
 abbrev μ-loop : tie.MeasureT-loop
-μ-loop n m arity fanins tables excluded p outs edges live most shut₀ w₀ shut w = most - w
+μ-loop n m arity fanins tables excluded p outs live count rows hs opens₀ g₀ opens g = m - g
 
-edge-tables-requires : tie.Need-edge-tables-requires Inv-loop μ-loop
-edge-tables-requires c κs = (c .pre .0 .most, λ g h. c .pre .0 .gate g h .few)
+gate-ok : (c : tie.In-loop Inv-loop μ-loop) → GateOk (now (c .before .before .before .before .before .before .before .args .arity)) (now (c .before .before .before .before .before .before .before .args .fanins)) (c .before .loop .g) 50
+gate-ok c =
+    let s = c .before .before .before .before .before .before .before in
+    later (omega (arith, s .pre .0 .ins, s .pre .0 .most)) (s .pre .0 .gate (c .before .loop .g) (omega arith))
 
 size-requires : tie.Need-size-requires Inv-loop μ-loop
-size-requires c κs = c .before .pre .0 .ins
+size-requires c κs = c .pre .0 .ins
 
 mask-requires : tie.Need-mask-requires Inv-loop μ-loop
 mask-requires c κs = c .size .ensures .places
 
+compatible-rows-requires : tie.Need-compatible-rows-requires Inv-loop μ-loop
+compatible-rows-requires c κs = let z = c .before in (z .before .pre .0, (z .before .pre .1, z .size .ensures .words))
+
 loop-holds : tie.Need-loop-holds Inv-loop μ-loop
 loop-holds c =
-    let s = c .before .before .before in
-    let a = s .args in (
-      omega arith,
-      c .before .before .edge-tables .ensures,
-      λ g h. getD-replicate {A = ℕ} 40 g 0 0 (omega (arith, s .pre .0 .most)) ∙ by-none (2 ^ getD (now (a .arity)) g 0) (c .mask .result) (comes (now (a .arity)) (now (a .fanins)) (now (a .tables)) (now (a .excluded)) (now (a .outs)) (a .n) (a .m) (a .p) g),
+    let a = c .before .before .before .before .before .args in
+    (omega arith, refl, unchanged (λ q v. openTable (netOf (now (a .arity)) (now (a .fanins)) (now (a .tables)) (a .n) (a .m) (now (a .excluded)) (now (a .outs)) (a .p)) (a .n + q)) (replicate 40 0))
+
+element-copy-out-place : tie.Need-element-copy-out-place Inv-loop μ-loop
+element-copy-out-place c = omega (arith, c .before .before .before .before .before .before .before .pre .0 .most)
+
+place-requires : tie.Need-place-requires Inv-loop μ-loop
+place-requires c κs = search needs
+
+entry-count-requires : tie.Need-entry-count-requires Inv-loop μ-loop
+entry-count-requires c κs = omega (arith, c .place .ensures, gate-ok (c .before .before) .few)
+
+shut-requires : tie.Need-shut-requires Inv-loop μ-loop
+shut-requires c κs =
+    let t = c .before .before .before .before .before in
+    let z = t .before .before .before .before .before .before in
+    let s = z .before in
+    ((s .pre .0 .ins, omega (arith, s .pre .0 .most), z .size .ensures .words), gate-ok t)
+
+rest-requires : tie.Need-rest-requires Inv-loop μ-loop
+rest-requires c κs =
+    let n = c .before .before .before in
+    let pl = n .before in
+    let l = pl .before .before .before in
+    let r = l .before .before .before in
+    let a = r .before .before .before .args in (
+      omega (arith, n .entry-count .ensures .1),
+      subst (λ (k : ℕ). c .shut .result < 2 ^ k) (sym (n .entry-count .ensures .0 ∙ ap (λ (k : ℕ). 2 ^ k) (pl .place .ensures)))
+          (shut-lt (now (a .arity)) (now (a .fanins)) (r .compatible-rows .result .values) (r .compatible-rows .result .sets) (a .n) (r .before .mask .result) (l .loop .g) (r .before .before .size .result .words) (c .shut .result) (c .shut .ensures)),
     )
 
-words-requires : tie.Need-words-requires Inv-loop μ-loop
-words-requires c κs = c .before .before .before .before .before .pre .0
+mul-opens : tie.Need-mul-opens Inv-loop μ-loop
+mul-opens c = omega (arith, c .before .before .before .before .before .before .before .before .before .before .before .before .before .before .pre .0 .most)
 
-word-sets-requires : tie.Need-word-sets-requires Inv-loop μ-loop
-word-sets-requires c κs =
-    let l = c .before .before .before .before in
-    let s = l .before .before .before .before in
-    (s .pre .0, (s .pre .1, (l .loop .inv .1, (omega (arith, l .before .before .size .ensures .words), c .before .before .words .ensures))))
+array-write-opens : tie.Need-array-write-opens Inv-loop μ-loop
+array-write-opens c = omega (arith, c .before .before .before .before .before .before .before .before .before .before .before .before .before .before .pre .0 .most)
 
-shut-word-requires : tie.Need-shut-word-requires Inv-loop μ-loop
-shut-word-requires c κs = c .before .before .before .before .before .before .before .before .before .before .before .before .pre .0
-
-add-w : tie.Need-add-w Inv-loop μ-loop
-add-w c = omega (arith, c .before .before .before .before .before .before .before .before .before .before .before .size .ensures .words)
+add-g : tie.Need-add-g Inv-loop μ-loop
+add-g c = omega (arith, c .before .before .before .before .before .before .before .before .before .before .before .before .before .before .pre .0 .most)
 
 loop-less : tie.Need-loop-less Inv-loop μ-loop
 loop-less c = search needs
 
 loop-again : tie.Need-loop-again Inv-loop μ-loop
 loop-again c =
-    let h = c .before .before .before .before in
-    let v = h .before .before .before in
-    let l = v .before .before in
-    let s = l .before .before .before .before in
+    let h = c .before in
+    let n = h .before .before .before in
+    let pl = n .before in
+    let t = pl .before .before in
+    let l = t .before .loop in
+    let r = t .before .before .before .before in
+    let z = r .before .before in
+    let s = z .before in
     let a = s .args in (
       omega arith,
-      l .loop .inv .1,
-      λ g hg. c .shut-word .ensures .1 g hg
-          ∙ shut-more (now (a .arity)) (now (a .fanins)) (now (a .tables)) (now (a .excluded)) (now (a .outs)) (a .n) (a .m) (a .p) (s .pre .0) (v .words .result) (h .word-sets .result) (l .loop .w) (l .before .mask .result) g _ (v .words .ensures) (h .word-sets .ensures) hg (l .loop .inv .2 g hg),
-    )
-
-complements-requires : tie.Need-complements-requires Inv-loop μ-loop
-complements-requires c κs =
-    let o = c .before .before in
-    let s = o .before .before .before .before in
-    let a = s .args in (
-      s .pre .0 .most,
-      λ g h. (s .pre .0 .gate g h .few, by-lt (2 ^ getD (now (a .arity)) g 0) (o .before .mask .result) (comes (now (a .arity)) (now (a .fanins)) (now (a .tables)) (now (a .excluded)) (now (a .outs)) (a .n) (a .m) (a .p) g) (o .loop .w) (getD (o .loop .shut) g 0) (o .loop .inv .2 g h)),
+      simp length-set (l .inv .1),
+      changed-step (λ q v. openTable (netOf (now (a .arity)) (now (a .fanins)) (now (a .tables)) (a .n) (a .m) (now (a .excluded)) (now (a .outs)) (a .p)) (a .n + q)) (replicate 40 0) (l .opens) (l .g) (c .rest .result) (omega (arith, s .pre .0 .most)) (l .inv .2)
+          (c .rest .ensures ∙ ap (λ (k : ℕ). 2 ^ k - 1 - h .shut .result) (n .entry-count .ensures .0 ∙ ap (λ (k : ℕ). 2 ^ k) (pl .place .ensures))
+          ∙ opened (now (a .arity)) (now (a .fanins)) (now (a .tables)) (now (a .excluded)) (now (a .outs)) (a .n) (a .m) (a .p) (s .pre .0) (r .compatible-rows .result .values) (r .compatible-rows .result .sets) (z .size .result .places) (z .size .result .words) (r .before .mask .result) (l .g) (h .shut .result) (omega arith) (z .size .ensures) (r .before .mask .ensures .1) (r .compatible-rows .ensures) (h .shut .ensures)),
     )
 
 returns : tie.Need-returns Inv-loop μ-loop
 returns c =
-    let o = c .before .before .before in
-    let s = o .before .before .before .before in
-    let a = s .args in
-    let z = o .before .before .size in
-    let e : o .loop .w ≡ z .result .words = omega arith in
-    c .complements .ensures
-    ∙ per-gate-ext (a .m) (λ g. 2 ^ 2 ^ getD (now (a .arity)) g 0 - 1 - getD (o .loop .shut) g 0) (λ g. openTable (netOf (now (a .arity)) (now (a .fanins)) (now (a .tables)) (a .n) (a .m) (now (a .excluded)) (now (a .outs)) (a .p)) (a .n + g))
-    (λ g h. opened (now (a .arity)) (now (a .fanins)) (now (a .tables)) (now (a .excluded)) (now (a .outs)) (a .n) (a .m) (a .p) (z .result .places) (z .result .words) (o .before .mask .result) g (getD (o .loop .shut) g 0) h (z .ensures) (o .before .mask .ensures .1)
-    (o .loop .inv .2 g h ∙ ap (λ (w : ℕ). shutBy (now (a .arity)) (now (a .fanins)) (now (a .tables)) (now (a .excluded)) (now (a .outs)) (a .n) (a .m) (a .p) (o .before .mask .result) w g) e))
+    let a = c .before .before .before .before .before .before .before .args in
+    let l = c .before .loop in
+    let e : l .g ≡ a .m = omega arith in
+    let f : ℕ → ℕ = λ q. openTable (netOf (now (a .arity)) (now (a .fanins)) (now (a .tables)) (a .n) (a .m) (now (a .excluded)) (now (a .outs)) (a .p)) (a .n + q) in
+    per-gate (l .opens) f (a .m) (l .inv .1) (subst (λ (m : ℕ). Changed (λ q v. f q) (replicate 40 0) (l .opens) m) e (l .inv .2))
 
 pub open-of-spec : {M : Type 1} → statement M
 open-of-spec =
@@ -98,15 +114,18 @@ open-of-spec =
     (tie.spec
     Inv-loop
     μ-loop
-    edge-tables-requires
     size-requires
     mask-requires
+    compatible-rows-requires
     loop-holds
-    words-requires
-    word-sets-requires
-    shut-word-requires
-    add-w
+    element-copy-out-place
+    place-requires
+    entry-count-requires
+    shut-requires
+    rest-requires
+    mul-opens
+    array-write-opens
+    add-g
     loop-less
     loop-again
-    complements-requires
     returns)

@@ -2,51 +2,41 @@
 use borrow.Author.Needs.{needs}
 use mathlib.Core.Path.{_≡_, refl, sym, ap, _∙_}
 use mathlib.Core.Bool.{_&&_}
+use mathlib.Core.List.{List}
 use Prim.Native.Nat.{ℕ, _-_, _≤_, _<_}
 use native.Mathlib.Omega.{arith}
-use lib.Bits.{bitAnd, bitOr}
-use lib.ListN.{length, getD, length-set}
+use lib.Bits.{bitAnd}
+use lib.ListN.{length, getD}
 use denote.Ref.{now}
 use Rattle.bits.specs.Range.{every}
-use Rattle.bits.specs.Bit.{bit}
+use Rattle.bits.specs.Bit.{bit, column}
 use Rattle.bits.proofs.Ranges.{and-true}
+use Rattle.network.specs.Net.{entry}
+use Rattle.network.specs.Flat.{gateAt}
+use Rattle.simulate.specs.Simulated.{wordsAt}
+use Rattle.simulate.proofs.RowLaws.{words-long}
 use Rattle.compatible.specs.Words.{edge}
 use Rattle.compatible.proofs.Laws.{edge-step}
 use Rattle.compatible.proofs.through_gate.Statement.{statement}
 use Rattle.compatible.proofs.through_gate.Tie as tie
 
 abbrev Inv-loop : tie.InvT-loop
-Inv-loop k at h fanins edges ins hs₀ r₀ hs r =
-    (r ≤ k) × (length hs ≡ 50) × ((b s : ℕ) → b < 64 → bit (getD hs s 0) b ≡ (bit (getD hs₀ s 0) b && every r (edge fanins edges ins k at h b s)))
+Inv-loop arity fanins edges rows count own g hs₀ k r₀ hs r =
+    (r ≤ k) × (length hs ≡ 800)
+    × ((ts : List ℕ) (w b s : ℕ) → w < count → b < 64
+    → bit (getD (wordsAt hs w) s 0) b ≡ (bit (getD (wordsAt hs₀ w) s 0) b && every r (edge fanins edges g (getD own w 0) b (entry (column (wordsAt rows w) b) (gateAt arity fanins ts g)) s)))
 
 abbrev μ-loop : tie.MeasureT-loop
-μ-loop k at h fanins edges ins hs₀ r₀ hs r = k - r
+μ-loop arity fanins edges rows count own g hs₀ k r₀ hs r = k - r
 
-fits : (c : tie.After-place Inv-loop μ-loop) → c .place .result < 50
-fits c =
-    let s = c .before .before .before .before .before .before .before .before in
-    omega (arith, c .place .ensures, s .pre .1 (c .before .before .before .before .before .loop .r) (omega arith))
+few : (c : tie.After-place Inv-loop μ-loop) → c .place .result ≤ 4
+few c = omega (arith, c .place .ensures, c .before .before .pre .1 .0 .few)
 
-long50-requires : tie.Need-long50-requires Inv-loop μ-loop
-long50-requires c κs = search needs
-
-loop-holds : tie.Need-loop-holds Inv-loop μ-loop
-loop-holds c = (omega arith, c .long50 .ensures, λ b s hb. sym (and-true (bit (getD (now (c .before .before .args .hs)) s 0) b)))
-
-add-lut : tie.Need-add-lut Inv-loop μ-loop
-add-lut c = search needs
-
-mul-lut : tie.Need-mul-lut Inv-loop μ-loop
-mul-lut c = search needs
-
-element-copy-out-lut : tie.Need-element-copy-out-lut Inv-loop μ-loop
-element-copy-out-lut c = search needs
-
-lut-requires : tie.Need-lut-requires Inv-loop μ-loop
-lut-requires c κs = search needs
-
-add-place : tie.Need-add-place Inv-loop μ-loop
-add-place c = search needs
+early : (c : tie.After-fanin Inv-loop μ-loop) → c .fanin .result < 50
+early c =
+    let l = c .before .before .before .before .before .before in
+    let pl = l .before in
+    omega (arith, c .fanin .ensures, pl .before .before .pre .1 .0 .early (l .loop .r) (omega (arith, pl .place .ensures)))
 
 element-copy-out-place : tie.Need-element-copy-out-place Inv-loop μ-loop
 element-copy-out-place c = search needs
@@ -54,42 +44,66 @@ element-copy-out-place c = search needs
 place-requires : tie.Need-place-requires Inv-loop μ-loop
 place-requires c κs = search needs
 
-mul-v : tie.Need-mul-v Inv-loop μ-loop
-mul-v c = omega (arith, fits c)
+loop-holds : tie.Need-loop-holds Inv-loop μ-loop
+loop-holds c = (omega arith, c .before .before .pre .1 .1, λ ts w b s hw hb. sym (and-true (bit (getD (wordsAt (now (c .before .before .args .hs)) w) s 0) b)))
 
-element-copy-out-v : tie.Need-element-copy-out-v Inv-loop μ-loop
-element-copy-out-v c = omega (arith, fits c)
+mul-lut-row : tie.Need-mul-lut-row Inv-loop μ-loop
+mul-lut-row c = search needs
 
-mul-hs : tie.Need-mul-hs Inv-loop μ-loop
-mul-hs c = omega (arith, fits (c .before))
+add-lut-row : tie.Need-add-lut-row Inv-loop μ-loop
+add-lut-row c = omega (arith, few (c .before .before))
 
-element-write-hs : tie.Need-element-write-hs Inv-loop μ-loop
-element-write-hs c = omega (arith, fits (c .before))
+mul-lut-row-2 : tie.Need-mul-lut-row-2 Inv-loop μ-loop
+mul-lut-row-2 c = omega (arith, few (c .before .before))
+
+element-copy-out-lut-row : tie.Need-element-copy-out-lut-row Inv-loop μ-loop
+element-copy-out-lut-row c = omega (arith, few (c .before .before))
+
+lut-row-requires : tie.Need-lut-row-requires Inv-loop μ-loop
+lut-row-requires c κs = let s = c .before .before .before .before .before in (s .pre .0, s .pre .1 .0)
+
+union-requires : tie.Need-union-requires Inv-loop μ-loop
+union-requires c κs = c .before .before .before .before .before .before .before .pre .0 .1
+
+fanin-requires : tie.Need-fanin-requires Inv-loop μ-loop
+fanin-requires c κs = (omega arith, omega (arith, few (c .before .before .before .before .before .before)))
+
+intersect-requires : tie.Need-intersect-requires Inv-loop μ-loop
+intersect-requires c κs =
+    let f = c .before .before in
+    let l = f .before .before .before .before .before .before in
+    ((early f, l .before .before .before .pre .0 .1), l .loop .inv .1)
 
 add-r : tie.Need-add-r Inv-loop μ-loop
-add-r c = search needs
+add-r c = omega (arith, few (c .before .before .before .before .before .before .before .before .before .before))
 
 loop-less : tie.Need-loop-less Inv-loop μ-loop
 loop-less c = search needs
 
 loop-again : tie.Need-loop-again Inv-loop μ-loop
 loop-again c =
-    let s = c .before .before .before .before .before .before .before .before .before .args in
-    let l = c .before .before .before .before .before .before .loop in
-    let f = c .before .place .result in
-    let e = c .before .before .before .lut in (
+    let f = c .before .before .before in
+    let u = f .before in
+    let t = u .before .before in
+    let l = t .before .before .before .loop in
+    let a = t .before .before .before .before .before .before .args in (
       omega arith,
-      simp length-set (l .inv .1),
-      λ b x hb. edge-step (now (s .fanins)) (now (s .edges)) (now (s .ins)) (l .hs) (now (s .hs)) (s .k) (s .at) (s .h) (l .r) f (bitAnd (getD (l .hs) f 0) (bitOr (s .h) (e .result))) (e .result) b x
-          (omega (arith, fits (c .before))) (c .before .place .ensures) refl (e .ensures b hb) (l .inv .2 b x hb),
+      c .intersect .ensures .0,
+      λ ts w b s hw hb. rw (c .intersect .ensures .1 w hw) (edge-step (now (a .fanins)) (now (a .edges)) (wordsAt (l .hs) w) (wordsAt (now (a .hs)) w) (a .g) (getD (now (a .own)) w 0) (l .r) (f .fanin .result)
+          (bitAnd (getD (wordsAt (l .hs) w) (f .fanin .result) 0) (getD (u .union .result) w 0)) (getD (u .union .result) w 0) (getD (t .lut-row .result) w 0) b (entry (column (wordsAt (now (a .rows)) w) b) (gateAt (now (a .arity)) (now (a .fanins)) ts (a .g))) s
+          (omega (arith, early f, words-long (l .hs) w)) (f .fanin .ensures) refl (u .union .ensures w hw) (t .lut-row .ensures ts w b hw hb) (l .inv .2 ts w b s hw hb)),
     )
 
 returns : tie.Need-returns Inv-loop μ-loop
 returns c =
-    let s = c .before .before .before .before .args in
+    let pl = c .before .before in
+    let a = pl .before .before .args in
     let l = c .before .loop in
-    let e : l .r ≡ s .k = omega arith in
-    (l .inv .1, λ b x hb. l .inv .2 b x hb ∙ ap (λ (i : ℕ). bit (getD (now (s .hs)) x 0) b && every i (edge (now (s .fanins)) (now (s .edges)) (now (s .ins)) (s .k) (s .at) (s .h) b x)) e)
+    let e : l .r ≡ getD (now (a .arity)) (a .g) 0 = omega (arith, pl .place .ensures) in (
+      l .inv .1,
+      λ ts w b s hw hb. l .inv .2 ts w b s hw hb
+          ∙ ap (λ (i : ℕ). bit (getD (wordsAt (now (a .hs)) w) s 0) b && every i (edge (now (a .fanins)) (now (a .edges)) (a .g) (getD (now (a .own)) w 0) b (entry (column (wordsAt (now (a .rows)) w) b) (gateAt (now (a .arity)) (now (a .fanins)) ts (a .g))) s)) e,
+    )
 
 pub through-gate-spec : {M : Type 1} → statement M
 through-gate-spec =
@@ -97,19 +111,17 @@ through-gate-spec =
     (tie.spec
     Inv-loop
     μ-loop
-    long50-requires
-    loop-holds
-    add-lut
-    mul-lut
-    element-copy-out-lut
-    lut-requires
-    add-place
     element-copy-out-place
     place-requires
-    mul-v
-    element-copy-out-v
-    mul-hs
-    element-write-hs
+    loop-holds
+    mul-lut-row
+    add-lut-row
+    mul-lut-row-2
+    element-copy-out-lut-row
+    lut-row-requires
+    union-requires
+    fanin-requires
+    intersect-requires
     add-r
     loop-less
     loop-again

@@ -3,21 +3,21 @@ use borrow.Author.Needs.{needs}
 use mathlib.Core.Path.{refl}
 use Prim.Native.Nat.{_-_, _≤_}
 use native.Mathlib.Omega.{arith}
+use lib.ListN.{getD}
 use denote.Ref.{now}
-use Rattle.simulate.proofs.RowLaws.{Stored, store-step}
+use Rattle.simulate.proofs.RowLaws.{Stored, store-first, store-step}
 use Rattle.simulate.proofs.store_row.Statement.{statement}
 use Rattle.simulate.proofs.store_row.Tie as tie
 
 abbrev Inv-loop : tie.InvT-loop
 Inv-loop rows₀ s row count w₀ rows w =
-    (w ≤ count) × Stored rows₀ rows row s w
+    (w ≤ count) × Stored rows₀ rows (λ w. getD row w 0) s w
 
 abbrev μ-loop : tie.MeasureT-loop
 μ-loop rows₀ s row count w₀ rows w = count - w
 
 loop-holds : tie.Need-loop-holds Inv-loop μ-loop
-loop-holds c =
-    (omega arith, (c .pre .1, λ w h. absurd (omega arith), λ w h l. refl))
+loop-holds c = let a = c .args in (omega arith, store-first (now (a .rows)) (λ w. getD (now (a .row)) w 0) (a .s) (c .pre .1))
 
 mul-rows : tie.Need-mul-rows Inv-loop μ-loop
 mul-rows c = search needs
@@ -47,7 +47,7 @@ loop-again : tie.Need-loop-again Inv-loop μ-loop
 loop-again c =
     let l = c .before .before .loop in
     let s = c .before .before .before .args in
-    (omega arith, store-step (now (s .rows)) (l .rows) (now (s .row)) (s .s) (l .w) (omega arith) (omega arith) (l .inv .1))
+    (omega arith, store-step (now (s .rows)) (l .rows) (λ w. getD (now (s .row)) w 0) (s .s) (l .w) (getD (now (s .row)) (l .w) 0) (omega arith) (omega arith) (l .inv .1) refl)
 
 returns : tie.Need-returns Inv-loop μ-loop
 returns c =
