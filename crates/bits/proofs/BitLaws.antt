@@ -1,20 +1,20 @@
 -- The laws of `bit`. Assumes nothing.
 use mathlib.Core.Path.{_≡_, refl, sym, ap, ap₂, _∙_, subst}
-use mathlib.Core.Logic.{_⊎_, inl, inr, ⊎-elim}
-use mathlib.Core.Bool.{Bool, true, false, not, _&&_, _||_, true≢false, false≢true}
+use mathlib.Core.Logic.{_⊎_, inl, inr}
+use mathlib.Core.Bool.{Bool, true, false, not, _&&_, _||_, false≢true}
 use Prim.Native.Nat.{ℕ, zero, suc, _+_, _-_, _*_, _/_, _%_, _^_, _≤_, _<_, min, max}
-use native.Mathlib.Nat.{mod-lt, zero-div, mod-eq-of-lt, zero-add, add-zero, add-comm, div-one, lt-of-lt-of-le, div-eq-of-lt, mul-assoc, mul-add-div-right, mul-add-mod-self-right}
+use native.Mathlib.Nat.{mod-lt, zero-div, mod-eq-of-lt, add-comm, div-one, lt-of-lt-of-le, div-eq-of-lt, mul-assoc, mul-add-div-right, mul-add-mod-self-right}
 use native.Mathlib.Numerals.{one-add, add-one}
 use native.Mathlib.Omega.{arith}
 use lib.Dec.{eqb, ltb, lit<}
 use lib.Arith.{digits-mod, lt-one}
 use lib.Pow.{pow-mono, pow-add, pow-pos, shr-shr, ones-split, high, shr-lt, mod-pow-add, ones-lt}
 use lib.Bits.{bitAnd, bitOr, bitXor, and-step, or-step, xor-step, and-shr, or-shr, xor-shr, and-mask, xor-add-and, differ}
-use lib.Count.{ones, ones-cat, ones-step, trailingZeros, under}
+use lib.Count.{ones, ones-cat, trailingZeros, under}
 use borrow.Author.Tests.{lt-ltb, le-ltb}
 use native.Mathlib.Decide.{decLt}
 use Rattle.bits.specs.Range.{num, count}
-use Rattle.bits.specs.Bit.{bit, choose, differs}
+use Rattle.bits.specs.Bit.{bit, differs}
 
 -- a digit is 0 or 1
 pub digit : (n : ℕ) → (n % 2 ≡ 0) ⊎ (n % 2 ≡ 1)

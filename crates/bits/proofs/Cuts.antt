@@ -1,19 +1,20 @@
 -- Patterns cut into words, and tables joined. Assumes nothing.
-use mathlib.Core.Path.{_≡_, refl, sym, ap, ap₂, _∙_, subst}
+use mathlib.Core.Path.{_≡_, refl, sym, ap, ap₂, _∙_}
 use mathlib.Core.Logic.{_⊎_, inl, inr}
-use mathlib.Core.Bool.{Bool, true, false, not, _&&_, _||_, true≢false, false≢true}
+use mathlib.Core.Bool.{Bool, true, false, not, cond, _&&_, _||_}
 use Prim.Native.Nat.{ℕ, zero, suc, _+_, _-_, _*_, _/_, _%_, _^_, _≤_, _<_}
 use native.Mathlib.Nat.{one-mul, add-zero, zero-add, div-add-mod'}
+use native.Mathlib.Decide.{decLt}
 use native.Mathlib.Omega.{arith}
 use lib.Dec.{ltb, lit<, lit≤}
-use lib.Pow.{pow-add, pow-mono, pow-pos, shl-exact, shr-lt}
-use lib.Bits.{bitAnd, bitOr, bitXor, or-lt}
+use lib.Pow.{pow-add, pow-mono, pow-pos, pow-lt, shl-exact}
+use lib.Bits.{bitOr, or-lt}
 use borrow.Author.Tests.{ltb-true, lt-ltb, le-ltb}
 use Rattle.bits.specs.Range.{num, every, any, count}
 use Rattle.bits.specs.Bit.{bit, tableOf}
-use Rattle.bits.specs.Cut.{Cut}
-use Rattle.bits.proofs.BitLaws.{bit-and, bit-or, bit-ext, bit-not, bit-zero, num-lt}
-use Rattle.bits.proofs.Ranges.{iff, and-l, and-r, and-i, any-e, any-i, table-lt, bit-table}
+use Rattle.bits.specs.Cut.{Cut, wordCount}
+use Rattle.bits.proofs.BitLaws.{bit-or, bit-ext, bit-not, bit-zero, bit-ones, num-lt}
+use Rattle.bits.proofs.Ranges.{iff, and-l, and-r, and-i, any-e, any-i, table-lt, table-ext, bit-table}
 
 -- `1 << n` in k bits
 pub one-shl : (n k : ℕ) → n < k → (1 * 2 ^ n) % 2 ^ k ≡ 2 ^ n
@@ -30,6 +31,23 @@ large n h l =
     let e : 2 ^ n ≡ 2 ^ (n - 6) * 64 = ap (λ (k : ℕ). 2 ^ k) s ∙ pow-add 2 (n - 6) 6 in
     let q : 2 ^ (n - 6) ≤ 16 = pow-mono {j = 4} (omega arith) in
     record { words = q; places = lit≤ tt; word = λ x g. omega arith; place = λ x g. omega arith; pattern = λ w b lw lb. omega arith; whole = inr (refl, sym e) }
+
+-- the number of words is that of the definition
+pub cut-words : (n W L : ℕ) → Cut n W L → W ≡ wordCount n
+unfolding wordCount
+cut-words n W L cut = go (decLt n 6) (cut .whole)
+  where
+    go : Dec (n < 6) → ((W ≡ 1) × (L ≡ 2 ^ n)) ⊎ ((L ≡ 64) × (W * 64 ≡ 2 ^ n)) → W ≡ cond (ltb n 6) 1 (2 ^ (n - 6))
+    go (yes h) (inl e) = rw (lt-ltb n 6 h) (e .0)
+    go (yes h) (inr e) = let l : 2 ^ n < 64 = pow-lt h in let q = pow-pos n in absurd (omega (arith, e .1))
+    go (no h) e =
+        let s : n ≡ n - 6 + 6 = omega arith in
+        let p : 2 ^ n ≡ 2 ^ (n - 6) * 64 = ap (λ (k : ℕ). 2 ^ k) s ∙ pow-add 2 (n - 6) 6 in
+        rw (le-ltb n 6 (omega arith)) (wide e p (pow-pos (n - 6)))
+      where
+        wide : ((W ≡ 1) × (L ≡ 2 ^ n)) ⊎ ((L ≡ 64) × (W * 64 ≡ 2 ^ n)) → 2 ^ n ≡ 2 ^ (n - 6) * 64 → 0 < 2 ^ (n - 6) → W ≡ 2 ^ (n - 6)
+        wide (inl e) p q = omega (arith, e .0, e .1, cut .places)
+        wide (inr e) p q = omega (arith, e .1)
 
 -- some pattern passes where some place of some word does
 pub any-cut : {n W L : ℕ} → Cut n W L → (q : ℕ → Bool) → any W (λ w. any 64 (λ b. ltb b L && q (w * 64 + b))) ≡ any (2 ^ n) q
@@ -139,3 +157,14 @@ count-by-le live (suc w) q = step (countBy live w q) (count 64 (λ b. bit live b
   where
     step : (a c w : ℕ) → a ≤ w * 64 → c ≤ 64 → a + c ≤ suc w * 64
     step a c w h l = omega arith
+
+-- once all entries are there, more places add none
+pub all-there : (K : ℕ) (p : ℕ → ℕ → Bool) (w W acc : ℕ) → w ≤ W → acc ≡ tableOf K (λ t. any w (p t)) → acc ≡ 2 ^ K - 1
+    → acc ≡ tableOf K (λ t. any W (p t))
+all-there K p w W acc h e f = e ∙ table-ext K (λ t. any w (p t)) (λ t. any W (p t)) (λ t l. let s = there t l in s ∙ sym (still t s))
+  where
+    there : (t : ℕ) → t < K → any w (p t) ≡ true
+    there t l = sym (bit-table K (λ t. any w (p t)) t l) ∙ ap (λ (x : ℕ). bit x t) (sym e ∙ f) ∙ bit-ones K t l
+
+    still : (t : ℕ) → any w (p t) ≡ true → any W (p t) ≡ true
+    still t s = let r = any-e w (p t) s in any-i W (p t) (r .0) (omega (arith, r .1)) (r .2)

@@ -1,20 +1,19 @@
 -- Laws of `every`, `any`, `places` and `tableOf`. Assumes nothing.
 use mathlib.Core.Path.{_≡_, refl, sym, ap, ap₂, _∙_, subst}
-use mathlib.Core.Bool.{Bool, true, false, not, _&&_, _||_, Bool·beq, false≢true, true≢false}
+use mathlib.Core.Bool.{Bool, true, false, _&&_, _||_, false≢true}
 use mathlib.Core.List.{List, [], _∷_, _++_, map}
-use Prim.Native.Nat.{ℕ, zero, suc, _+_, _-_, _*_, _/_, _%_, _^_, _<_, _≤_}
-use native.Mathlib.Nat.{zero-div, div-div-eq-div-mul, pow-succ', pow-zero, not-suc-le-zero}
+use Prim.Native.Nat.{ℕ, zero, suc, _+_, _*_, _/_, _%_, _^_, _<_, _≤_}
+use native.Mathlib.Nat.{zero-div, div-div-eq-div-mul, pow-succ', not-suc-le-zero}
 use native.Mathlib.Numerals.{add-one}
 use native.Mathlib.Decide.{decLt, ℕ-discrete}
 use native.Mathlib.Omega.{arith}
-use lib.Dec.{T, eqb, leb, ltb}
-use lib.ListN.{length, getD, set, take, length-append, List·getD-append, length-set}
+use lib.ListN.{length, getD, set, length-append, List·getD-append}
 use lib.Pow.{pow-mono}
-use lib.Seq.{getD-at, ext-getD, getD-set-same, getD-set-other}
-use borrow.Author.Tests.{eqb-true, eqb-false, eq-eqb, ne-eqb}
+use lib.Seq.{getD-at, getD-set-same, getD-set-other}
+use borrow.Author.Tests.{eq-eqb, ne-eqb}
 use Rattle.bits.specs.Range.{num, every, any, places}
-use Rattle.bits.specs.Bit.{bit, number, tableOf, column, entryAt}
-use Rattle.bits.proofs.BitLaws.{bit-zero, some-bit, bit-pos}
+use Rattle.bits.specs.Bit.{bit, number, tableOf, column}
+use Rattle.bits.proofs.BitLaws.{bit-zero, some-bit}
 use Rattle.bits.proofs.Shannon.{number-snoc}
 
 -- ## Bool

@@ -71,23 +71,6 @@ pub fn lut4(t: u64, a: u64, b: u64, c: u64, d: u64) -> u64
     mux(d, lut3(t >> 8, a, b, c), lut3(t, a, b, c))
 }
 
-// The same at any arity: the table's entry at the bits of the first k words.
-pub fn lut(k: usize, t: u64, ins: &[u64; 6]) -> u64
-    requires { ⌜ (1 ≤ k) × (k ≤ 4) ⌝ }
-    ensures { λ r. ⌜ ((b : ℕ) → b < 64 → bit r b ≡ bit t (entryAt k (now (ins .entry)) b)) ⌝ }
-{
-    if k == 1 {
-        return lut1(t, ins[0]);
-    }
-    if k == 2 {
-        return lut2(t, ins[0], ins[1]);
-    }
-    if k == 3 {
-        return lut3(t, ins[0], ins[1], ins[2]);
-    }
-    lut4(t, ins[0], ins[1], ins[2], ins[3])
-}
-
 // Bit i of a number.
 pub fn bit_of(x: u64, i: u64) -> bool
     requires { ⌜ i < 64 ⌝ }

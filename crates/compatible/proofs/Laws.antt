@@ -1,6 +1,6 @@
 -- One turn of the backward walk of rule 5, and one gate of rule 7, over plain variables. Assumes nothing.
 use mathlib.Core.Path.{_≡_, refl, sym, ap, ap₂, _∙_, subst}
-use mathlib.Core.Bool.{Bool, true, not, _&&_, _||_}
+use mathlib.Core.Bool.{Bool, not, _&&_, _||_}
 use mathlib.Core.List.{List, []}
 use Prim.Native.Nat.{ℕ, suc, _+_, _-_, _*_, _/_, _%_, _^_, _≤_, _<_}
 use native.Mathlib.Numerals.{add-one}
@@ -14,14 +14,14 @@ use borrow.Author.Tests.{eq-eqb, ne-eqb}
 use Rattle.bits.specs.Range.{_⇒_, every, any}
 use Rattle.bits.specs.Bit.{bit, tableOf, column, entryAt}
 use Rattle.bits.proofs.BitLaws.{bit-and, bit-or, bit-ones}
-use Rattle.bits.proofs.Ranges.{and-assoc, and-true, every-ext, any-e, any-i, any-ext, bit-table, table-ext}
+use Rattle.bits.proofs.Ranges.{and-assoc, and-true, every-ext, any-ext, table-ext}
+use Rattle.bits.proofs.Cuts.{all-there}
 use Rattle.network.specs.Net.{Gate, entry}
 use Rattle.network.specs.Compatible.{agree, edgeSet, compatibleFrom}
 use Rattle.network.specs.Flat.{gateAt, gatesOf}
 use Rattle.network.proofs.Laws.{arity-at, fanin-at, gates-from, length-gates}
 use Rattle.edges.specs.Edges.{Edged}
 use Rattle.edges.proofs.Laws.{edge-at}
-use Rattle.entries.specs.By.{tableBy}
 use Rattle.entries.proofs.By.{by-none, by-lt, by-more}
 use Rattle.simulate.specs.Simulated.{wordsAt}
 use Rattle.simulate.proofs.RowLaws.{words-at}
@@ -125,20 +125,6 @@ shut-in-is ks fs ws hs ins moved n live g k keep ek ei ef kept =
 
 -- ## Rule 7, word after word
 
--- once all entries are there, the words left add none
-by-all : (K live : ℕ) (q : ℕ → ℕ → Bool) (w W acc : ℕ) → w ≤ W → acc ≡ tableBy K live w q → acc ≡ 2 ^ K - 1 → acc ≡ tableBy K live W q
-by-all K live q w W acc h e f =
-    e ∙ table-ext K (λ t. any w (p t)) (λ t. any W (p t)) (λ t l. let s = there t l in s ∙ sym (still t s))
-  where
-    p : ℕ → ℕ → Bool
-    p t v = any 64 (λ b. bit live b && q t (v * 64 + b))
-
-    there : (t : ℕ) → t < K → any w (p t) ≡ true
-    there t l = sym (bit-table K (λ t. any w (p t)) t l) ∙ ap (λ (x : ℕ). bit x t) (sym e ∙ f) ∙ bit-ones K t l
-
-    still : (t : ℕ) → any w (p t) ≡ true → any W (p t) ≡ true
-    still t s = let r = any-e w (p t) s in any-i W (p t) (r .0) (omega (arith, r .1)) (r .2)
-
 module _ (ks fs rows hs : List ℕ) (n live g : ℕ) where
   pub shut-first : 0 ≡ shutBy ks fs rows hs n live 0 g
   unfolding shutBy
@@ -156,7 +142,7 @@ module _ (ks fs rows hs : List ℕ) (n live g : ℕ) where
 
   pub shut-all : (w W acc : ℕ) → w ≤ W → acc ≡ shutBy ks fs rows hs n live w g → acc ≡ 2 ^ 2 ^ getD ks g 0 - 1 → acc ≡ shutBy ks fs rows hs n live W g
   unfolding shutBy
-  shut-all w W acc h e f = by-all (2 ^ getD ks g 0) live (shutsAt ks fs rows hs n g) w W acc h e f
+  shut-all w W acc h e f = all-there (2 ^ getD ks g 0) (λ t v. any 64 (λ b. bit live b && shutsAt ks fs rows hs n g t (v * 64 + b))) w W acc h e f
 
   pub shut-lt : (W x : ℕ) → x ≡ shutBy ks fs rows hs n live W g → x < 2 ^ 2 ^ getD ks g 0
   unfolding shutBy

@@ -5,6 +5,7 @@ use Prim.Native.Nat.{ℕ, _+_, _*_, _<_}
 use native.Mathlib.Omega.{arith}
 use lib.ListN.{getD}
 use Rattle.bits.specs.Cut.{Cut, wordCount}
+use Rattle.bits.proofs.Cuts.{cut-words}
 use Rattle.network.specs.declared.Session.{Session}
 use Rattle.network.specs.declared.Answer.the-variants.{Done}
 use Rattle.network.specs.Net.{Net}
@@ -15,7 +16,7 @@ use Rattle.network.specs.Valid.{NetOk, OutputsOk}
 use Rattle.network.proofs.Laws.{length-gates}
 use Rattle.network.proofs.Valid.{net-ok, outputs-ok}
 use Rattle.compatible.specs.Words.{perGate, onesIn}
-use Rattle.compatible.proofs.Stores.{ones-are, cut-words, per-gate-ext}
+use Rattle.compatible.proofs.Stores.{ones-are, per-gate-ext}
 
 module _ (s : Session) (n m p : ℕ) (en : n ≡ s .n) (em : m ≡ s .m) (ep : p ≡ s .p) where
   pub net-fine : stateFault s ≡ Done → NetOk (s .arity) (s .fanins) n m × OutputsOk (s .outputs) p 50

@@ -2,7 +2,6 @@
 use mathlib.Core.Path.{_≡_, refl, sym, ap, ap₂, _∙_, subst}
 use mathlib.Core.Bool.{Bool, cond, _&&_}
 use mathlib.Core.List.{List}
-use mathlib.Core.Logic.{_⊎_, inl, inr}
 use Prim.Native.Nat.{ℕ, zero, suc, _+_, _-_, _*_, _%_, _^_, _<_, _≤_}
 use native.Mathlib.Nat.{lt-of-le-of-lt}
 use native.Mathlib.Numerals.{add-one}
@@ -11,12 +10,11 @@ use native.Mathlib.Decide.{ℕ-discrete, decLt}
 use lib.Dec.{ltb}
 use lib.Bits.{bitAnd, and-le-l}
 use lib.ListN.{length, getD, set, replicate, getD-replicate}
-use lib.Pow.{pow-add, pow-mono, pow-pos}
 use lib.Seq.{getD-set-same, getD-set-other, ext-getD}
 use borrow.Author.Tests.{lt-ltb, le-ltb, ltb-true}
-use Rattle.bits.specs.Range.{count, places}
+use Rattle.bits.specs.Range.{count}
 use Rattle.bits.specs.Bit.{bit, tableOf}
-use Rattle.bits.specs.Cut.{Cut, wordCount}
+use Rattle.bits.specs.Cut.{Cut}
 use Rattle.bits.proofs.BitLaws.{bit-and, bit-ext, bit-mask}
 use Rattle.bits.proofs.Ranges.{Changed, iff, lt-cases, length-places, places-at, places-ext, table-lt, bit-table}
 use Rattle.bits.proofs.Cuts.{countBy, count-ext, count-le, count-cut}
@@ -24,22 +22,6 @@ use Rattle.network.specs.Flat.{wordOf}
 use Rattle.compatible.specs.Words.{perGate, onesIn}
 
 -- ## The words of a set
-
-pub cut-words : (n W L : ℕ) → Cut n W L → W ≡ wordCount n
-unfolding wordCount
-cut-words n W L cut = go (decLt n 6) (cut .whole)
-  where
-    go : Dec (n < 6) → ((W ≡ 1) × (L ≡ 2 ^ n)) ⊎ ((L ≡ 64) × (W * 64 ≡ 2 ^ n)) → W ≡ cond (ltb n 6) 1 (2 ^ (n - 6))
-    go (yes h) (inl e) = rw (lt-ltb n 6 h) (e .0)
-    go (yes h) (inr e) = let l : 2 ^ n ≤ 2 ^ 5 = pow-mono {j = 5} (omega arith) in absurd (omega (arith, e .1, pow-pos n))
-    go (no h) c =
-        let s : n ≡ n - 6 + 6 = omega arith in
-        let q : 2 ^ n ≡ 2 ^ (n - 6) * 64 = ap (λ (k : ℕ). 2 ^ k) s ∙ pow-add 2 (n - 6) 6 in
-        rw (le-ltb n 6 (omega arith)) (large q c)
-      where
-        large : 2 ^ n ≡ 2 ^ (n - 6) * 64 → ((W ≡ 1) × (L ≡ 2 ^ n)) ⊎ ((L ≡ 64) × (W * 64 ≡ 2 ^ n)) → W ≡ 2 ^ (n - 6)
-        large q (inl e) = omega (arith, e .0, e .1, cut .places, pow-pos (n - 6))
-        large q (inr e) = omega (arith, e .1)
 
 -- a place of word w is live where it is a pattern
 pub live-place : (n W L w b : ℕ) → Cut n W L → w < W → b < 64 → ltb b L ≡ ltb (w * 64 + b) (2 ^ n)

@@ -2,7 +2,7 @@
 use mathlib.Core.Path.{_≡_, refl, sym, ap, ap₂, _∙_}
 use mathlib.Core.Bool.{Bool, true, false, not, _&&_, _||_}
 use mathlib.Core.List.{List}
-use Prim.Native.Nat.{ℕ, zero, suc, _+_, _-_, _*_, _^_, _<_, _≤_}
+use Prim.Native.Nat.{ℕ, zero, suc, _+_, _-_, _*_, _^_, _<_}
 use native.Mathlib.Numerals.{add-one}
 use native.Mathlib.Omega.{arith}
 use lib.Bits.{bitOr}
@@ -11,8 +11,7 @@ use lib.ListN.{length, getD, set, replicate}
 use lib.Seq.{getD-take, getD-set-other}
 use Rattle.bits.specs.Range.{_⇒_, places, every, any}
 use Rattle.bits.specs.Bit.{bit, tableOf, column, entryAt}
-use Rattle.bits.proofs.BitLaws.{bit-ones}
-use Rattle.bits.proofs.Ranges.{and-assoc, and-true, any-e, any-i, any-ext, every-ext, places-at, bit-table, table-lt, table-ext, filled}
+use Rattle.bits.proofs.Ranges.{and-assoc, and-true, any-ext, every-ext, places-at, table-lt, table-ext, filled}
 use Rattle.bits.proofs.Cuts.{every-not, table-or, table-none}
 use Rattle.network.specs.Net.{Gate, Net, arity, gate, noGate, entry, values, entryOf, occurs, excluded}
 use Rattle.network.specs.DontCares.{odc, cdc, full}
@@ -37,17 +36,6 @@ module _ (q : ℕ → ℕ → Bool) (K : ℕ) where
   pub word-more : (w acc r : ℕ) → acc ≡ upTo w → r ≡ tableOf K (λ t. q t w) → bitOr acc r ≡ upTo (w + 1)
   word-more w acc r ea er =
       ap₂ bitOr ea er ∙ table-or K (λ t. any w (q t)) (λ t. q t w) ∙ ap upTo (sym (add-one w))
-
-  -- once all entries are there, the words left add none
-  pub all-there : (w count acc : ℕ) → w ≤ count → acc ≡ upTo w → acc ≡ 2 ^ K - 1 → acc ≡ upTo count
-  all-there w count acc h e f =
-      e ∙ table-ext K (λ t. any w (q t)) (λ t. any count (q t)) (λ t l. let s = set t l in s ∙ sym (still t s))
-    where
-      set : (t : ℕ) → t < K → any w (q t) ≡ true
-      set t l = sym (bit-table K (λ t. any w (q t)) t l) ∙ ap (λ (x : ℕ). bit x t) (sym e ∙ f) ∙ bit-ones K t l
-
-      still : (t : ℕ) → any w (q t) ≡ true → any count (q t) ≡ true
-      still t s = let r = any-e w (q t) s in any-i count (q t) (r .0) (omega (arith, r .1)) (r .2)
 
 -- a table of K entries fits in as many bits
 pub below : (K c x : ℕ) (p : ℕ → Bool) → c ≡ K → x ≡ tableOf K p → x < 2 ^ c

@@ -1,41 +1,21 @@
 -- The words of the patterns, and of sets of patterns. Assumes nothing.
 use mathlib.Core.Path.{_≡_, sym, ap, ap₂, _∙_, subst}
-use mathlib.Core.Logic.{_⊎_, inl, inr}
-use mathlib.Core.Bool.{Bool, not, cond, _&&_}
+use mathlib.Core.Bool.{Bool, not, _&&_}
 use mathlib.Core.List.{List}
-use Prim.Native.Nat.{ℕ, _+_, _-_, _*_, _^_, _<_}
-use native.Mathlib.Decide.{decLt, ℕ-discrete}
+use Prim.Native.Nat.{ℕ, _+_, _*_, _^_, _<_}
+use native.Mathlib.Decide.{ℕ-discrete}
 use native.Mathlib.Omega.{arith}
 use lib.Dec.{ltb}
 use lib.ListN.{length, getD, set, length-set}
-use lib.Pow.{pow-add, pow-pos, pow-lt}
 use lib.Seq.{getD-set-same, getD-set-other}
-use borrow.Author.Tests.{lt-ltb, le-ltb, ltb-true}
+use borrow.Author.Tests.{lt-ltb, ltb-true}
 use Rattle.bits.specs.Bit.{bit, tableOf}
-use Rattle.bits.specs.Cut.{Cut, wordCount}
 use Rattle.bits.proofs.Ranges.{iff, bit-table, table-ext}
 use Rattle.bits.proofs.Logic.{not-not}
 use Rattle.network.specs.Net.{Net}
 use Rattle.network.specs.DontCares.{odc}
 use Rattle.network.specs.Flat.{wordOf}
 use Rattle.dontcares.specs.Framed.{Framed, OdcAt}
-
--- the number of words is that of the definition
-pub cut-words : (n W L : ℕ) → Cut n W L → W ≡ wordCount n
-unfolding wordCount
-cut-words n W L cut = go (decLt n 6) (cut .whole)
-  where
-    go : Dec (n < 6) → ((W ≡ 1) × (L ≡ 2 ^ n)) ⊎ ((L ≡ 64) × (W * 64 ≡ 2 ^ n)) → W ≡ cond (ltb n 6) 1 (2 ^ (n - 6))
-    go (yes h) (inl e) = rw (lt-ltb n 6 h) (e .0)
-    go (yes h) (inr e) = let l : 2 ^ n < 64 = pow-lt h in let q = pow-pos n in absurd (omega (arith, e .1))
-    go (no h) e =
-        let s : n ≡ n - 6 + 6 = omega arith in
-        let p : 2 ^ n ≡ 2 ^ (n - 6) * 64 = ap (λ (k : ℕ). 2 ^ k) s ∙ pow-add 2 (n - 6) 6 in
-        rw (le-ltb n 6 (omega arith)) (large e p (pow-pos (n - 6)))
-      where
-        large : ((W ≡ 1) × (L ≡ 2 ^ n)) ⊎ ((L ≡ 64) × (W * 64 ≡ 2 ^ n)) → 2 ^ n ≡ 2 ^ (n - 6) * 64 → 0 < 2 ^ (n - 6) → W ≡ 2 ^ (n - 6)
-        large (inl e) p q = omega (arith, e .0, e .1, cut .places)
-        large (inr e) p q = omega (arith, e .1)
 
 module _ {n count live : ℕ} (f : Framed n count live) where
   -- a live place is a pattern

@@ -5,7 +5,7 @@ use mathlib.Core.Bool.{Bool, true, false, not, _&&_}
 use mathlib.Core.List.{List, [], _∷_, _++_}
 use Prim.Native.Nat.{ℕ, _+_, _-_, _^_, _≤_, _<_}
 use native.Mathlib.Omega.{arith}
-use lib.Dec.{leb, ltb}
+use lib.Dec.{ltb}
 use lib.ListN.{length, getD, replicate}
 use borrow.Author.Tests.{lt-leb, le-leb, le-ltb, lt-ltb}
 use Rattle.bits.specs.Range.{smallest}
@@ -16,9 +16,9 @@ use Rattle.network.specs.declared.Refusal.the-variants.{BitPastEnd, BufferTooSh
 use Rattle.network.specs.declared.TablesAnswer.the-variants as tables
 use Rattle.network.specs.declared.Answer.{Answer}
 use Rattle.network.specs.declared.Answer.the-variants.{Done, Refused}
-use Rattle.network.specs.Net.{Net, Gate, isGate, gate, arity, entries, Replacement, replaced}
+use Rattle.network.specs.Net.{Gate, isGate, gate, arity, Replacement, replaced}
 use Rattle.network.specs.DontCares.{sdc, cdc, full}
-use Rattle.network.specs.Flat.{gateAt, gatesOf, netOf, loadedNet, currentNet}
+use Rattle.network.specs.Flat.{gateAt, loadedNet, currentNet}
 use Rattle.network.specs.Tests.{refuseIf, orElse, first, widthTest}
 use Rattle.network.specs.State.{arityOf, stateFault, asInvalid, stateTest}
 use Rattle.network.specs.Load.{loadDone, loadRefused, opened, readOf, loadOf}

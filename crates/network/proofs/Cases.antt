@@ -1,7 +1,6 @@
 -- The cases of specs/Cases.antt hold, by computation. Assumes nothing.
 use mathlib.Core.Path.{_≡_, refl}
-use mathlib.Core.List.{List, [], _∷_, map}
-use Prim.Native.Nat.{ℕ}
+use mathlib.Core.List.{map}
 use Rattle.bits.specs.Bit.{bit}
 use Rattle.network.specs.Net.{isGate, excluded, excludedFor, occurs, patternOrder, entry, values}
 use Rattle.network.specs.DontCares.{sdc, cdc, valuesInverted, odc, full, harms}

@@ -1,7 +1,6 @@
 -- What a load gives: a session that passes refusal 10's test, whose current tables are the loaded ones, with the open tables of the
 -- loaded network. Assumes nothing.
 use mathlib.Core.Path.{_≡_}
-use Prim.Native.Nat.{ℕ}
 use lib.ListN.{length}
 use Rattle.network.specs.declared.Session.{Session}
 use Rattle.network.specs.declared.Answer.the-variants.{Done}

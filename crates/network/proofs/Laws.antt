@@ -1,20 +1,18 @@
 -- Laws of `entry`, `run` and the flat arrays. Assumes nothing.
-use mathlib.Core.Path.{_≡_, refl, sym, ap, ap₂, _∙_, subst}
-use mathlib.Core.Bool.{Bool, true, false}
-use mathlib.Core.List.{List, [], _∷_, _++_, map}
-use Prim.Native.Nat.{ℕ, zero, suc, _+_, _-_, _*_, _/_, _%_, _^_, _≤_, _<_}
+use mathlib.Core.Path.{_≡_, refl, sym, ap, _∙_}
+use mathlib.Core.Bool.{Bool, false}
+use mathlib.Core.List.{List, [], _∷_, _++_}
+use Prim.Native.Nat.{ℕ, suc, _+_, _*_, _^_, _<_}
 use native.Mathlib.Nat.{add-zero}
-use native.Mathlib.Numerals.{add-one}
 use native.Mathlib.Omega.{arith}
 use lib.ListN.{length, getD, take, drop, set, length-append}
 use lib.Seq.{take-suc-set, getD-take, drop-cons}
 use Rattle.bits.specs.Range.{places}
 use Rattle.bits.specs.Bit.{bit, number, tableOf, column, entryAt}
-use Rattle.bits.proofs.Ranges.{length-places, places-at, places-ext, map-places, number-lt, table-ext, table-lt, bit-table, column-at, column-set, column-length}
-use Rattle.network.specs.Net.{Gate, Net, arity, entry, run, values}
-use Rattle.network.specs.Compatible.{freeFanins, turns}
-use Rattle.network.specs.Flat.{gateAt, gatesOf, netOf}
-use Rattle.network.specs.Valid.{GateOk, NetOk}
+use Rattle.bits.proofs.Ranges.{length-places, places-at, map-places, table-ext, table-lt, column-at, column-set, column-length}
+use Rattle.network.specs.Net.{Gate, arity, entry, run}
+use Rattle.network.specs.Flat.{gateAt, gatesOf}
+use Rattle.network.specs.Valid.{GateOk}
 
 pub run-snoc : (vs : List Bool) (gs : List Gate) (g : Gate) → run vs (gs ++ g ∷ []) ≡ run vs gs ++ bit (g .table) (entry (run vs gs) g) ∷ []
 run-snoc vs [] g = refl

@@ -1,5 +1,4 @@
 -- 01's number and named values for each refusal: 'Who can cause a refusal'. Assumes nothing.
-use mathlib.Core.Bool.{Bool, true, false}
 use mathlib.Core.List.{List, [], _∷_}
 use Prim.Native.Nat.{ℕ}
 use Rattle.network.specs.declared.Refusal.{Refusal}

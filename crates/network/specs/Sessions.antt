@@ -1,9 +1,9 @@
 -- Lists of exchanges, and demand 3 as one claim about a session that a load gave and a list: 01, 'What about sequences?'. Assumes nothing.
 use mathlib.Core.Path.{_≡_}
 use mathlib.Core.Logic.{_≢_, _↔_}
-use mathlib.Core.Bool.{Bool, true, false, cond}
+use mathlib.Core.Bool.{true, false, cond}
 use mathlib.Core.List.{List, [], _∷_, _++_, map}
-use Prim.Native.Nat.{ℕ, _+_, _^_, _<_}
+use Prim.Native.Nat.{ℕ, _+_, _<_}
 use lib.Dec.{eqb}
 use lib.ListN.{length, getD}
 use Rattle.bits.specs.Range.{places}
@@ -18,7 +18,7 @@ use Rattle.network.specs.Compatible.{closed}
 use Rattle.network.specs.Flat.{loadedNet, currentNet}
 use Rattle.network.specs.Tests.{first}
 use Rattle.network.specs.Load.{loadOf, loadDone}
-use Rattle.network.specs.Calls.{fits, alters, exchangeTests, exchangeAnswer, exchangeOf, withCurrent, verdictOf}
+use Rattle.network.specs.Calls.{fits, alters, exchangeTests, exchangeOf, withCurrent, verdictOf}
 
 -- ## A list of exchanges: each gets the session that the one before it returned
 

@@ -1,9 +1,8 @@
 -- `bits::fill` meets its contract. Assumes nothing.
-use mathlib.Core.Path.{_≡_, refl, sym, _∙_}
-use mathlib.Core.Bool.{Bool, true, false}
+use mathlib.Core.Path.{sym, _∙_}
+use mathlib.Core.Bool.{true, false}
 use native.Mathlib.Omega.{arith}
 use lib.Bits.{and-mask}
-use Rattle.bits.specs.Range.{num}
 use Rattle.bits.specs.Bit.{bit}
 use Rattle.bits.proofs.BitLaws.{bit-ones, bit-zero, low, num-inj}
 use Rattle.bits.proofs.fill.Statement.{statement}

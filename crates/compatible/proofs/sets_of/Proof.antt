@@ -8,7 +8,8 @@ use denote.Ref.{now}
 use Rattle.network.specs.Compatible.{compatible}
 use Rattle.network.specs.Flat.{netOf, wordOf}
 use Rattle.simulate.specs.Simulated.{wordsAt}
-use Rattle.compatible.proofs.Stores.{sets-step, cut-words}
+use Rattle.bits.proofs.Cuts.{cut-words}
+use Rattle.compatible.proofs.Stores.{sets-step}
 use Rattle.compatible.proofs.sets_of.Statement.{statement}
 use Rattle.compatible.proofs.sets_of.Tie as tie
 

@@ -6,7 +6,8 @@ use Prim.Native.Nat.{ℕ, _-_, _^_, _≤_}
 use native.Mathlib.Omega.{arith}
 use lib.ListN.{getD}
 use denote.Ref.{now}
-use Rattle.dontcares.proofs.TableLaws.{delivers, upTo, none-yet, word-more, all-there, word-delivers}
+use Rattle.bits.proofs.Cuts.{all-there}
+use Rattle.dontcares.proofs.TableLaws.{delivers, upTo, none-yet, word-more, word-delivers}
 use Rattle.dontcares.proofs.delivered.Statement.{statement}
 use Rattle.dontcares.proofs.delivered.Tie as tie
 
@@ -46,7 +47,7 @@ returns c ts =
     let ec = ma .before in
     let pl = ec .before in
     let a = pl .before .before .args in
-    all-there (delivers (now (a .arity)) (now (a .fanins)) ts (now (a .rows)) (now (a .keep)) (a .g)) (2 ^ getD (now (a .arity)) (a .g) 0) (l .loop .w) (a .count) (l .loop .acc) (l .loop .inv .0) (l .loop .inv .1 ts)
+    all-there (2 ^ getD (now (a .arity)) (a .g) 0) (delivers (now (a .arity)) (now (a .fanins)) ts (now (a .rows)) (now (a .keep)) (a .g)) (l .loop .w) (a .count) (l .loop .acc) (l .loop .inv .0) (l .loop .inv .1 ts)
     (c .if1 .taken ∙ ma .mask .ensures .0 ∙ ap (λ (i : ℕ). 2 ^ i - 1) (ec .entry-count .ensures .0 ∙ ap (λ (k : ℕ). 2 ^ k) (pl .place .ensures)))
 
 gather-at-requires : tie.Need-gather-at-requires Inv-loop μ-loop

@@ -1,7 +1,6 @@
 -- `engine::exchange_answer` meets its contract. Assumes nothing.
-use mathlib.Core.Path.{_≡_, sym, _∙_}
-use mathlib.Core.List.{List, [], _∷_}
-use Prim.Native.Nat.{_+_, _-_, _≤_, _<_}
+use mathlib.Core.Path.{sym, _∙_}
+use mathlib.Core.List.{[], _∷_}
 use native.Mathlib.Omega.{arith}
 use Rattle.network.specs.Flat.{loadedNet}
 use Rattle.network.specs.Calls.{gateTest, tableTest, closedTest, heldClosed, exchangeAnswer}

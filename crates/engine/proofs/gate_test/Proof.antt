@@ -1,10 +1,8 @@
 -- `engine::gate_test` meets its contract. Assumes nothing.
-use mathlib.Core.Path.{_≡_, sym, _∙_}
-use mathlib.Core.List.{List, [], _∷_}
-use Prim.Native.Nat.{_+_, _-_, _≤_, _<_}
-use native.Mathlib.Omega.{arith}
+use mathlib.Core.Path.{_∙_}
+use mathlib.Core.List.{[], _∷_}
 use Rattle.network.specs.Flat.{loadedNet}
-use Rattle.network.specs.Calls.{gateTest, tableTest}
+use Rattle.network.specs.Calls.{gateTest}
 use Rattle.network.specs.State.{stateTest}
 use Rattle.engine.proofs.Judged.{alone, stopped, went-on, gate-low, gate-high, gate-fine}
 use borrow.Author.Needs.{needs}

@@ -1,7 +1,6 @@
 -- `engine::tables` meets its contract. Assumes nothing.
-use mathlib.Core.Path.{_≡_, sym, _∙_}
-use mathlib.Core.List.{List, []}
-use Prim.Native.Nat.{_+_, _-_, _≤_, _<_}
+use mathlib.Core.Path.{sym, _∙_}
+use mathlib.Core.List.{[]}
 use native.Mathlib.Omega.{arith}
 use Rattle.engine.proofs.Judged.{named, tables-refused, tables-done}
 use borrow.Author.Needs.{needs}

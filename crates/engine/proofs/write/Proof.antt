@@ -1,12 +1,11 @@
 -- `engine::write` meets its contract. Assumes nothing.
-use mathlib.Core.Path.{_≡_, sym, ap, _∙_}
-use mathlib.Core.List.{List}
-use Prim.Native.Nat.{ℕ, _≤_, _<_}
+use mathlib.Core.Path.{sym, ap, _∙_}
+use Prim.Native.Nat.{_≤_, _<_}
 use native.Mathlib.Omega.{arith}
 use lib.ListN.{length}
 use Rattle.network.specs.declared.WriteAnswer.the-variants.{Written}
 use Rattle.network.specs.Write.{bytesOf}
-use Rattle.network.specs.Calls.{Filled, writeAnswer, writeOf}
+use Rattle.network.specs.Calls.{writeOf}
 use Rattle.network.proofs.Valid.{state-e}
 use Rattle.engine.proofs.Judged.{state-refused, filling-invalid, filling-short, filling-done}
 use borrow.Author.Needs.{needs}

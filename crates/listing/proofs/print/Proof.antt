@@ -1,5 +1,5 @@
 -- `listing::print` is safe: the part that it writes has as many bytes as it says. Assumes nothing.
-use mathlib.Core.Path.{_≡_, sym}
+use mathlib.Core.Path.{sym}
 use Prim.Native.Nat.{_≤_}
 use native.Mathlib.Omega.{arith}
 use lib.ListN.{length}

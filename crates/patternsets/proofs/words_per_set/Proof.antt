@@ -4,7 +4,7 @@ use mathlib.Core.Path.{ap, _∙_}
 use native.Mathlib.Omega.{arith}
 use Rattle.bits.specs.Cut.{wordCount}
 use Rattle.network.proofs.Valid.{net-ok}
-use Rattle.compatible.proofs.Stores.{cut-words}
+use Rattle.bits.proofs.Cuts.{cut-words}
 use Rattle.patternsets.proofs.words_per_set.Statement.{statement}
 use Rattle.patternsets.proofs.words_per_set.Tie as tie
 

@@ -1,6 +1,6 @@
 -- `dontcares::observability::extent` meets its contract. Assumes nothing.
 use borrow.Author.Needs.{needs}
-use Rattle.dontcares.proofs.Words.{cut-words}
+use Rattle.bits.proofs.Cuts.{cut-words}
 use Rattle.dontcares.proofs.observability.extent.Statement.{statement}
 use Rattle.dontcares.proofs.observability.extent.Tie as tie
 
