@@ -1,3 +1,4 @@
 pub mod Names
 pub mod Laws
 pub mod Answers
+pub mod Cases

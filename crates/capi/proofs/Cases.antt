@@ -1,0 +1,21 @@
+-- The cases of specs/Cases.antt hold, by computation. Assumes nothing.
+use mathlib.Core.Path.{_≡_, refl}
+use mathlib.Core.List.{map}
+use Rattle.bits.specs.Bit.{bit}
+use Rattle.network.specs.Net.{isGate, excluded, excludedFor, occurs, patternOrder, entry, values}
+use Rattle.network.specs.DontCares.{sdc, cdc, valuesInverted, odc, full, harms}
+use Rattle.network.specs.Compatible.{agree, constant, turns, freeFanins, atOutputs, compatibleFrom, compatible, compatibleCount, delivers, closed, openTable, openTables}
+use Rattle.network.specs.Flat.{gateAt, gatesOf, netOf, loadedNet, currentNet, wordOf, wordsOf}
+use Rattle.network.specs.Tests.{markTest, faninTest, faninsTest, excludedTest}
+use Rattle.network.specs.State.{gateFault, stateFault, stateTest}
+use Rattle.network.specs.Load.{outputRecord, readOutputs, gateRecord, readGates, excludedRecord, readBody, headerRecord, readOf, loadOf}
+use Rattle.network.specs.Write.{headerBytes, excludedBytes, gateBytes, outputBytes, bytesOf}
+use Rattle.network.specs.Calls.{gateTest, tableTest, alters, closedTest, harmTest, exchangeAnswer, verdictOf, patternSetsOf, writeOf}
+use Rattle.bits.specs.Cut.{wordCount}
+use Rattle.packed.specs.Packed.{packedOf, sessionIn, bytesTest, wordsTest}
+use Rattle.capi.specs.Boundary.{loadCall, tablesCall, patternSetsCall, hiddenCall, verdictCall, exchangeCall, writeCall}
+use Rattle.capi.specs.Cases.{cases}
+
+pub cases-hold : map (λ c. c .0) cases ≡ map (λ c. c .1) cases
+unfolding bit isGate excluded excludedFor occurs patternOrder entry values sdc cdc valuesInverted odc full harms agree constant turns freeFanins atOutputs compatibleFrom compatible compatibleCount delivers closed openTable openTables gateAt gatesOf netOf loadedNet currentNet wordOf wordsOf markTest faninTest faninsTest excludedTest gateFault stateFault stateTest outputRecord readOutputs gateRecord readGates excludedRecord readBody headerRecord readOf loadOf headerBytes excludedBytes gateBytes outputBytes bytesOf gateTest tableTest alters closedTest harmTest exchangeAnswer verdictOf patternSetsOf writeOf wordCount packedOf sessionIn bytesTest wordsTest loadCall tablesCall patternSetsCall hiddenCall verdictCall exchangeCall writeCall
+cases-hold = refl

@@ -1,0 +1,51 @@
+-- Cases of the calls, each computed and held against what 01 says of the twin network, or of a refusal.
+-- A case is a pair: what the definitions give, and what is stated. Assumes nothing.
+use mathlib.Core.List.{List, [], _∷_, _++_}
+use Prim.Native.Nat.{ℕ}
+use lib.ListN.{getD, set, take, replicate}
+use Rattle.network.specs.Net.{Replacement}
+use Rattle.network.specs.Cases.{twinBytes, twinSession}
+use Rattle.packed.specs.Packed.{packedOf}
+use Rattle.capi.specs.Boundary.{Left, loadCall, tablesCall, patternSetsCall, hiddenCall, verdictCall, exchangeCall, writeCall}
+
+-- the twin network's session, with one word behind it
+abbrev pub words : List ℕ
+words = packedOf twinSession ++ 9 ∷ []
+
+-- gate g set to table 0
+abbrev pub cleared : ℕ → Replacement
+cleared g = record { signal = g; table = 0 }
+
+-- the same once gate 1 has table 0: its current table stands at place 347
+abbrev pub changed : List ℕ
+changed = set words 347 0
+
+-- the number and every word of out; the number and every place of the buffer
+abbrev pub told : Left → List ℕ
+told l = l .number ∷ l .out
+
+abbrev pub laid : Left → List ℕ
+laid l = l .number ∷ l .buffer
+
+abbrev pub cases : List (List ℕ × List ℕ)
+cases =
+    (told (tablesCall words 1 (replicate 5 7)), 0 ∷ 6 ∷ 0 ∷ 2 ∷ 2 ∷ 7 ∷ [])
+    ∷ (laid (patternSetsCall words (replicate 7 7)), 0 ∷ 2 ∷ 2 ∷ 2 ∷ 0 ∷ 0 ∷ 0 ∷ 7 ∷ [])
+    ∷ (told (hiddenCall words (replicate 4 7)), 0 ∷ 1 ∷ 0 ∷ 0 ∷ 7 ∷ [])
+    ∷ (laid (exchangeCall words (cleared 1) (7 ∷ [])), 0 ∷ changed)
+    ∷ (told (exchangeCall words (cleared 2) (7 ∷ 7 ∷ [])), 13 ∷ 1 ∷ 7 ∷ [])
+    ∷ (laid (exchangeCall words (cleared 2) (7 ∷ 7 ∷ [])), 13 ∷ words)
+    ∷ (told (verdictCall words (cleared 2) (7 ∷ 7 ∷ [])), 0 ∷ 7 ∷ 7 ∷ [])
+    ∷ (told (verdictCall changed (cleared 2) (7 ∷ 7 ∷ [])), 14 ∷ 1 ∷ 0 ∷ [])
+    ∷ (told (writeCall words (replicate 28 7) (7 ∷ [])), 0 ∷ 27 ∷ [])
+    ∷ (laid (writeCall words (replicate 28 7) (7 ∷ [])), 0 ∷ twinBytes ++ 7 ∷ [])
+    -- a refusal leaves what is lent: too short, no session, no room, no gate
+    ∷ (told (exchangeCall (take 426 words) (cleared 1) []), 9 ∷ [])
+    ∷ (told (exchangeCall (replicate 427 0) (cleared 1) []), 10 ∷ [])
+    ∷ (told (exchangeCall (set words 282 256) (cleared 1) (7 ∷ [])), 10 ∷ 7 ∷ [])
+    ∷ (told (verdictCall words (cleared 0) (7 ∷ [])), 9 ∷ 7 ∷ [])
+    ∷ (told (tablesCall words 4 (replicate 4 7)), 11 ∷ 7 ∷ 7 ∷ 7 ∷ 7 ∷ [])
+    -- the file's refusals come before the session's room
+    ∷ (laid (loadCall (take 26 twinBytes) (7 ∷ [])), 1 ∷ 7 ∷ [])
+    ∷ (laid (loadCall twinBytes (7 ∷ [])), 9 ∷ 7 ∷ [])
+    ∷ []
