@@ -7,7 +7,7 @@ ghost use lib.ListN.{getD};
 ghost use mathlib.Core.Bool.{true, false, not, _&&_, Bool·beq};
 ghost use Rattle.bits.specs.Cut.{Cut};
 ghost use Rattle.bits.specs.Range.{num, any, count};
-ghost use Rattle.bits.specs.Bit.{bit, choose, number, entryAt, gives, Split};
+ghost use Rattle.bits.specs.Bit.{bit, choose, number, gives, Split};
 
 // What a search finds.
 pub enum Found {

@@ -1,14 +1,13 @@
 // The calls of the engine. None has a `requires`: whatever is passed, a call gives what its definition says, refusals included.
 ghost use mathlib.Core.Path.{_≡_};
-ghost use mathlib.Core.Bool.{Bool, not, _&&_};
-ghost use mathlib.Core.List.{List, [], _∷_};
-ghost use Prim.Native.Nat.{ℕ, _+_, _-_, _*_, _^_, _<_, _≤_};
-ghost use lib.Dec.{leb, ltb};
-ghost use lib.ListN.{length, getD};
+ghost use mathlib.Core.Bool.{not, _&&_};
+ghost use mathlib.Core.List.{[], _∷_};
+ghost use Prim.Native.Nat.{_+_, _-_, _^_, _<_, _≤_};
+ghost use lib.ListN.{length};
 ghost use Rattle.bits.specs.Range.{smallest};
 ghost use Rattle.bits.specs.Bit.{bit, differs};
 ghost use Rattle.network.specs.declared.Answer.the-variants.{Done};
-ghost use Rattle.network.specs.Flat.{loadedNet, currentNet};
+ghost use Rattle.network.specs.Flat.{loadedNet};
 ghost use Rattle.network.specs.Tests.{first};
 ghost use Rattle.network.specs.State.{stateFault, stateTest};
 ghost use Rattle.network.specs.Load.{loadOf, loadDone, opened};
