@@ -14,7 +14,6 @@ use Rattle.bits.specs.Range.{places}
 use Rattle.bits.proofs.Ranges.{length-places, places-at, places-ext}
 use Rattle.network.specs.declared.Session.{Session}
 use Rattle.network.specs.declared.Loaded.{Loaded}
-use Rattle.network.specs.declared.Exchanged.{Exchanged}
 use Rattle.network.specs.declared.Counts.{Counts}
 use Rattle.network.specs.declared.Tables.{Tables}
 use Rattle.network.specs.declared.TablesAnswer.{TablesAnswer}
@@ -24,7 +23,6 @@ use Rattle.network.specs.declared.WriteAnswer.the-variants as write
 use Rattle.network.specs.declared.Refusal.{Refusal}
 use Rattle.network.specs.declared.Answer.{Answer}
 use Rattle.network.specs.declared.Answer.the-variants.{Done, Refused}
-use Rattle.network.specs.Net.{Replacement}
 use Rattle.network.specs.DontCares.{sdc}
 use Rattle.network.specs.Compatible.{compatibleCount}
 use Rattle.network.specs.Flat.{loadedNet, currentNet}
@@ -32,7 +30,7 @@ use Rattle.network.specs.Refusals.{numberOf, valuesOf}
 use Rattle.network.specs.Tests.{first}
 use Rattle.network.specs.State.{stateTest}
 use Rattle.network.specs.Load.{loadOf}
-use Rattle.network.specs.Calls.{gateTest, stored, exchangeAnswer, exchanged, exchangeOf, verdictOf, gateTables, givenTables, tablesOf, roomTest, overwritten, filled, writeAnswer, countsOf}
+use Rattle.network.specs.Calls.{gateTest, gateTables, givenTables, tablesOf, roomTest, overwritten, filled, writeAnswer, countsOf}
 use Rattle.network.proofs.TestLaws.{refused-done, count-e}
 use Rattle.network.proofs.Valid.{valid-e, state-e}
 use Rattle.netwrite.specs.Laid.{Laid}
@@ -40,7 +38,7 @@ use Rattle.netwrite.proofs.Laws.{laid-append, laid-length, laid-start, part-pla
 use Rattle.dontcares.specs.Framed.{Tabled}
 use Rattle.engine.proofs.Judged.{alone, counts-done}
 use Rattle.packed.specs.Packed.{packedOf, sessionWords}
-use Rattle.capi.specs.Boundary.{Left, left, loadAnswer, loadCall, tableWords, tablesWork, allTableWords, verdictWork, exchangeWork}
+use Rattle.capi.specs.Boundary.{Left, left, loadAnswer, loadCall, tableWords, tablesWork, allTableWords}
 use Rattle.capi.proofs.Names.{Names, names-first, names-room, names-state, names-gate}
 use Rattle.capi.proofs.Laws.{Leaves, told, refused, done, worked}
 
@@ -136,43 +134,18 @@ module _ (s : Session) {x : Counts} (e : x ≡ countsOf s) (valid : stateTest s 
   pub counts-few : (out : List ℕ) → s .m ≤ length out → length (take (s .m - 0) (x .counts)) ≤ length out
   counts-few out r = let n = ap length counts-part ∙ length-places (s .m) counted in omega arith
 
--- ## Verdict and exchange
+-- ## Verdict and exchange: a call whose own test is y, and that gives nothing in `out`
 
-module _ (s : Session) (r : Replacement) (out : List ℕ) {v : Answer} (e : v ≡ verdictOf s r) where
-  judged : v ≡ first (verdictOf s r ∷ [])
-  judged = e ∙ alone (verdictOf s r)
+module _ (new buffer out : List ℕ) {y v : Answer} (e : v ≡ y) where
+  judged : v ≡ first (y ∷ [])
+  judged = e ∙ alone y
 
-  pub verdict-refused : {f : Refusal} {k : ℕ} {o : List ℕ} → v ≡ Refused f → k ≡ numberOf f → o ≡ overwritten (valuesOf f) out
-      → Leaves (worked (verdictWork r s) [] out) k [] o
-  verdict-refused h p q = told [] [] [] out (sym judged ∙ h) p q
+  pub judged-refused : {f : Refusal} {k : ℕ} {o : List ℕ} → v ≡ Refused f → k ≡ numberOf f → o ≡ overwritten (valuesOf f) out
+      → Leaves (left (first (y ∷ [])) [] new buffer out) k buffer o
+  judged-refused h p q = told [] new buffer out (sym judged ∙ h) p q
 
-  pub verdict-done : v ≡ Done → Leaves (worked (verdictWork r s) [] out) 0 [] out
-  verdict-done h = done [] [] [] out (sym judged ∙ h) refl refl
-
-module _ (s : Session) (r : Replacement) {x : Exchanged} (e : x ≡ exchangeOf s r) where
-  pub exchange-answer : x .answer ≡ exchangeAnswer s r
-  unfolding exchangeOf
-  exchange-answer = rw e (go (exchangeAnswer s r))
-    where
-      go : (a : Answer) → exchanged a s r .answer ≡ a
-      go Done = refl
-      go (Refused f) = refl
-
-  answered : x .answer ≡ first (exchangeAnswer s r ∷ [])
-  answered = exchange-answer ∙ alone (exchangeAnswer s r)
-
-  exchange-stored : x .answer ≡ Done → x .session ≡ stored s r
-  unfolding exchangeOf
-  exchange-stored h = rw (e, sym exchange-answer ∙ h)
-
-  module _ (session out : List ℕ) where
-    pub exchange-refused : {f : Refusal} {k : ℕ} {o : List ℕ} → x .answer ≡ Refused f → k ≡ numberOf f → o ≡ overwritten (valuesOf f) out
-        → Leaves (worked (exchangeWork r s) session out) k session o
-    exchange-refused h p q = told [] (packedOf (stored s r)) session out (sym answered ∙ h) p q
-
-    pub exchange-done : {b : List ℕ} → x .answer ≡ Done → b ≡ overwritten (packedOf (x .session)) session → Leaves (worked (exchangeWork r s) session out) 0 b out
-    exchange-done h p =
-        done [] (packedOf (stored s r)) session out (sym answered ∙ h) (p ∙ ap (λ (t : Session). overwritten (packedOf t) session) (exchange-stored h)) refl
+  pub judged-done : {b : List ℕ} → v ≡ Done → b ≡ overwritten new buffer → Leaves (left (first (y ∷ [])) [] new buffer out) 0 b out
+  judged-done h p = done [] new buffer out (sym judged ∙ h) p refl
 
 -- ## A call that fills a buffer by the answer y, which names nothing
 

@@ -91,6 +91,7 @@ module _ (work : Session → Work) (ws buffer out : List ℕ) {l : Loaded} {a : 
     pub valid : stateTest (l .session) ≡ Done
     pub long : sessionWords ≤ length ws
     pub room : work (l .session) .room ≤ length out
+    pub holds : l .session ≡ sessionIn ws
     pub leaves : {k : ℕ} {b o : List ℕ} → Leaves (worked (work (l .session)) buffer out) k b o → Leaves (onSession work ws buffer out) k b o
 
   pub opens : a ≡ Done → Open
@@ -104,6 +105,7 @@ module _ (work : Session → Work) (ws buffer out : List ℕ) {l : Loaded} {a : 
         valid = rw q (w .1 .1 .0);
         long = ltb-false (length ws) sessionWords (passed (ltb (length ws) sessionWords) BufferTooShort (w .0));
         room = c .1;
+        holds = q;
         leaves = λ {k} {b} {o} v.
             subst (λ x. Leaves (left x (work s .given) (work s .new) buffer out) k b o) (went-on (wordsTest ws ∷ tests s) (work s .tests) (f ∙ same-tests ws e tests) h) (rw q at v);
       }

@@ -128,7 +128,7 @@ pub extern "C" fn tusqirma_verdict(session: &[u64], gate: usize, table: u64, out
     if let Answer::Refused(r) = a {
         return render::number_of(r);
     }
-    let v = engine::verdict(l.session, gate, table);
+    let v = engine::verdict_in(l.session, gate, table);
     if let Answer::Refused(r) = v {
         return tell_refusal(r, out);
     }
@@ -151,12 +151,14 @@ pub extern "C" fn tusqirma_exchange(
     if let Answer::Refused(r) = a {
         return render::number_of(r);
     }
-    let e = engine::exchange(l.session, gate, table);
-    let v = e.answer;
+    let s = l.session;
+    let v = engine::answer_in(s, gate, table);
     if let Answer::Refused(r) = v {
         return tell_refusal(r, out);
     }
-    packed::pack(e.session, session);
+    let n = s.n as usize;
+    let g = gate - n;
+    packed::set_current(session, g, table);
     0
 }
 

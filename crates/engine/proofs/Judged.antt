@@ -24,7 +24,7 @@ use Rattle.network.specs.State.{arityOf, stateFault, asInvalid, stateTest}
 use Rattle.network.specs.Load.{loadDone, loadRefused, opened, readOf, loadOf}
 use Rattle.network.specs.Calls.{gateTest, fits, tableTest, alters, entryFound, closedTest, stored, heldClosed, exchangeAnswer, exchangeOf, Filled, roomTest, overwritten, filled, tablesOf, harmTest, countsFor, countsOf}
 use Rattle.network.proofs.TestLaws.{clear-e, kept, count-e, refused-done}
-use Rattle.network.proofs.Valid.{valid-e, state-e}
+use Rattle.network.proofs.Valid.{valid-e, state-e, state-i}
 use Rattle.network.proofs.Reached.{opened-fault, loaded-fresh}
 use Rattle.network.proofs.Exchanges.{net-gate, net-arity, gate-e, gate-i, loaded-length, loaded-inputs}
 
@@ -46,6 +46,10 @@ module _ {v : Answer} (xs ys : List Answer) (e : v ≡ first xs) where
 
   pub went-on : v ≡ Done → first ys ≡ first (xs ++ ys)
   went-on k = sym (first-append xs ys ∙ ap (λ (a : Answer). orElse a (first ys)) (sym e ∙ k))
+
+-- where 10 does not apply, one test stands for itself
+pub in-valid : (s : Session) → stateFault s ≡ Done → (a : Answer) → a ≡ first (stateTest s ∷ a ∷ [])
+in-valid s v a = alone a ∙ went-on (stateTest s ∷ []) (a ∷ []) (alone (stateTest s)) (state-i s v)
 
 -- ## 11
 
@@ -122,6 +126,10 @@ module _ (s : Session) (r : Replacement) (low : s .n ≤ r .signal) (high : r .s
       ap₂ (λ (k x : ℕ). entryFound (smallest (2 ^ k) (λ t. not (bit (getD (s .open_tables) g 0) t) && differs (bit x t) (bit (r .table) t)))) (sym loaded-arity) (sym loaded-table)
 
 -- ## Exchange, and calls that fill a buffer
+
+pub exchange-named : (s : Session) (r : Replacement) {a : Answer} → a ≡ exchangeAnswer s r → a ≡ Done → Named s (r .signal)
+unfolding exchangeAnswer
+exchange-named s r e k = named s (r .signal) (tableTest (loadedNet s) r ∷ closedTest (loadedNet s) (heldClosed s (r .signal)) r ∷ []) (sym e ∙ k)
 
 pub exchange-refused : (s : Session) (r : Replacement) {a : Answer} {f : Refusal} → a ≡ exchangeAnswer s r → a ≡ Refused f → record { answer = a; session = s } ≡ exchangeOf s r
 unfolding exchangeOf

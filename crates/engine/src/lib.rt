@@ -1,4 +1,5 @@
 // The calls of the engine. None has a `requires`: whatever is passed, a call gives what its definition says, refusals included.
+// `answer_in` and `verdict_in` are for a caller that has tested the session itself.
 ghost use mathlib.Core.Path.{_≡_};
 ghost use mathlib.Core.Bool.{not, _&&_};
 ghost use mathlib.Core.List.{[], _∷_};
@@ -37,14 +38,11 @@ fn first_closed(k: u8, loaded: u64, table: u64, opens: u64) -> Answer
     Answer::Refused(Refusal::ClosedEntry(t as usize))
 }
 
-// 10, then 11.
-fn gate_test(s: Session, gate: usize) -> Answer
+// 11, of a valid session.
+fn gate_in(s: Session, gate: usize) -> Answer
+    requires { ⌜ stateFault s ≡ Done ⌝ }
     ensures { λ r. ⌜ r ≡ first (stateTest s ∷ gateTest (loadedNet s) gate ∷ []) ⌝ }
 {
-    let v = state::state_test(s);
-    if let Answer::Refused(_) = v {
-        return v;
-    }
     let n = s.n as usize;
     let m = s.m as usize;
     if gate < n {
@@ -56,11 +54,12 @@ fn gate_test(s: Session, gate: usize) -> Answer
     Answer::Done
 }
 
-// 10, 11, then 12.
-fn table_test(s: Session, gate: usize, table: u64) -> Answer
+// 11, then 12.
+fn table_in(s: Session, gate: usize, table: u64) -> Answer
+    requires { ⌜ stateFault s ≡ Done ⌝ }
     ensures { λ r. ⌜ r ≡ first (stateTest s ∷ gateTest (loadedNet s) gate ∷ tableTest (loadedNet s) (record { signal = gate; table = table }) ∷ []) ⌝ }
 {
-    let a = gate_test(s, gate);
+    let a = gate_in(s, gate);
     if let Answer::Refused(_) = a {
         return a;
     }
@@ -74,11 +73,12 @@ fn table_test(s: Session, gate: usize, table: u64) -> Answer
     Answer::Done
 }
 
-// What an exchange is answered: the first of 10 to 13 that applies.
-fn exchange_answer(s: Session, gate: usize, table: u64) -> Answer
+// What an exchange in a valid session is answered: the first of 11 to 13 that applies.
+pub fn answer_in(s: Session, gate: usize, table: u64) -> Answer
+    requires { ⌜ stateFault s ≡ Done ⌝ }
     ensures { λ r. ⌜ r ≡ exchangeAnswer s (record { signal = gate; table = table }) ⌝ }
 {
-    let a = table_test(s, gate, table);
+    let a = table_in(s, gate, table);
     if let Answer::Refused(_) = a {
         return a;
     }
@@ -88,6 +88,31 @@ fn exchange_answer(s: Session, gate: usize, table: u64) -> Answer
     let loaded = s.loaded[g];
     let opens = s.open_tables[g];
     first_closed(k, loaded, table, opens)
+}
+
+// The verdict in a valid session.
+pub fn verdict_in(s: Session, gate: usize, table: u64) -> Answer
+    requires { ⌜ stateFault s ≡ Done ⌝ }
+    ensures { λ r. ⌜ r ≡ verdictOf s (record { signal = gate; table = table }) ⌝ }
+{
+    let a = table_in(s, gate, table);
+    if let Answer::Refused(_) = a {
+        return a;
+    }
+    let n = s.n as usize;
+    let g = gate - n;
+    verdict::harm(s, g, table)
+}
+
+// What an exchange is answered: 10, then as in a valid session.
+fn exchange_answer(s: Session, gate: usize, table: u64) -> Answer
+    ensures { λ r. ⌜ r ≡ exchangeAnswer s (record { signal = gate; table = table }) ⌝ }
+{
+    let v = state::state_test(s);
+    if let Answer::Refused(_) = v {
+        return v;
+    }
+    answer_in(s, gate, table)
 }
 
 // Sets a gate's current table, where the session's compatible sets leave it free.
@@ -115,13 +140,22 @@ pub fn exchange(s: Session, gate: usize, table: u64) -> Exchanged
 pub fn verdict(s: Session, gate: usize, table: u64) -> Answer
     ensures { λ r. ⌜ r ≡ verdictOf s (record { signal = gate; table = table }) ⌝ }
 {
-    let a = table_test(s, gate, table);
-    if let Answer::Refused(_) = a {
-        return a;
+    let v = state::state_test(s);
+    if let Answer::Refused(_) = v {
+        return v;
     }
-    let n = s.n as usize;
-    let g = gate - n;
-    verdict::harm(s, g, table)
+    verdict_in(s, gate, table)
+}
+
+// 10, then 11.
+fn gate_test(s: Session, gate: usize) -> Answer
+    ensures { λ r. ⌜ r ≡ first (stateTest s ∷ gateTest (loadedNet s) gate ∷ []) ⌝ }
+{
+    let v = state::state_test(s);
+    if let Answer::Refused(_) = v {
+        return v;
+    }
+    gate_in(s, gate)
 }
 
 // The SDC, CDC, full and open table of a gate.

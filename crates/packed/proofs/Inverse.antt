@@ -3,11 +3,11 @@
 -- `unpack` gives back every valid session that was packed. Assumes nothing.
 use mathlib.Core.Path.{_≡_, refl, sym, ap, _∙_}
 use mathlib.Core.List.{List, [], _∷_, _++_, append-nil}
-use Prim.Native.Nat.{ℕ, _≤_}
+use Prim.Native.Nat.{ℕ, _+_, _≤_, _<_}
 use native.Mathlib.Omega.{arith}
 use lib.Dec.{ltb}
-use lib.ListN.{length, getD, take, drop, length-append, take-append-drop}
-use lib.Seq.{length-take-le}
+use lib.ListN.{length, getD, take, drop, set, length-append, length-set, take-append-drop}
+use lib.Seq.{length-take-le, getD-set-other, drop-set-lt}
 use borrow.Author.Tests.{ltb-true, ltb-false}
 use Rattle.bits.specs.Range.{every}
 use Rattle.bits.proofs.Ranges.{every-e, every-i}
@@ -17,11 +17,11 @@ use Rattle.network.specs.declared.Answer.{Answer}
 use Rattle.network.specs.declared.Answer.the-variants.{Done, Refused}
 use Rattle.network.specs.State.{stateTest}
 use Rattle.network.specs.Load.{loadDone, onward}
-use Rattle.network.specs.Calls.{roomTest, overwritten}
+use Rattle.network.specs.Calls.{withCurrent, roomTest, overwritten}
 use Rattle.network.proofs.TestLaws.{passed, kept, clear-e}
 use Rattle.packed.specs.Packed.{bytesHeld, wordsHeld, packedOf, Sized, Narrow, sessionWords, byteWords, sessionIn, bytesTest, wordsTest, unpackOf}
 use Rattle.packed.proofs.Laws.{length-bytes, length-words, reads, tested}
-use Rattle.packed.proofs.Parts.{cut, join, regroup, three, sized-in, narrow-in, fits}
+use Rattle.packed.proofs.Parts.{cut, join, regroup, three, part-before, part-behind, part-set, sized-in, narrow-in, fits}
 
 -- ## A session and its words
 
@@ -64,6 +64,36 @@ unfolding packedOf sessionIn
 read-back ws h =
     rw (join ws 3 40 240, join ws 3 280 8, join ws 291 16 40, join ws 291 56 40, join ws 291 96 40, join ws 3 288 136) (three ws (omega arith))
 
+-- also over other words that have the same words behind a session
+read-over : (new ws : List ℕ) → 427 ≤ length new → drop 427 new ≡ drop 427 ws → overwritten (packedOf (sessionIn new)) ws ≡ new
+read-over new ws h e = rw (read-back new h, length-take-le 427 new h, ← e) (take-append-drop 427 new)
+
+-- ## One current table set
+
+current-in : (ws : List ℕ) (g t : ℕ) → g < 40 → sessionIn (set ws (347 + g) t) ≡ withCurrent (sessionIn ws) (set (sessionIn ws .current) g t)
+unfolding sessionIn
+current-in ws g t h =
+    let i = 347 + g in
+    rw (
+      getD-set-other ws i 0 t 0 (omega arith),
+      getD-set-other ws i 1 t 0 (omega arith),
+      getD-set-other ws i 2 t 0 (omega arith),
+      part-before ws 3 40 i t (omega arith),
+      part-before ws 43 240 i t (omega arith),
+      part-before ws 283 8 i t (omega arith),
+      part-before ws 291 16 i t (omega arith),
+      part-before ws 307 40 i t (omega arith),
+      part-set ws 347 40 g t h,
+      part-behind ws 387 40 i t (omega arith),
+    )
+
+-- to pack a session with one current table set, over the words that hold it, sets one word
+pub current-set : (ws : List ℕ) (g t : ℕ) → 427 ≤ length ws → g < 40
+    → set ws (347 + g) t ≡ overwritten (packedOf (withCurrent (sessionIn ws) (set (sessionIn ws .current) g t))) ws
+current-set ws g t h l =
+    let n = length-set ws (347 + g) t in
+    sym (ap (λ (s : Session). overwritten (packedOf s) ws) (sym (current-in ws g t l)) ∙ read-over (set ws (347 + g) t) ws (omega arith) (drop-set-lt 427 ws (347 + g) t (omega arith)))
+
 -- ## With the tests
 
 answered : (a : Answer) (s : Session) → onward a (loadDone s) .answer ≡ a
@@ -100,9 +130,7 @@ unpacked ws e =
 
 -- to pack the session that `unpack` gave changes no word
 pub repacked : (ws : List ℕ) → unpackOf ws .answer ≡ Done → overwritten (packedOf (sessionIn ws)) ws ≡ ws
-repacked ws e =
-    let h = unpacked ws e .long in
-    rw (read-back ws h, length-take-le 427 ws h) (take-append-drop 427 ws)
+repacked ws e = read-over ws ws (unpacked ws e .long) refl
 
 -- `unpack` gives back every valid session that was packed, over whatever words
 pub unpacks : (s : Session) (ws : List ℕ) → Sized s → Narrow s → stateTest s ≡ Done → unpackOf (overwritten (packedOf s) ws) ≡ loadDone s

@@ -1,16 +1,17 @@
 -- Numbers laid and read place after place, and tested one after the other. Assumes nothing.
 use mathlib.Core.Path.{_≡_, refl, sym, ap, _∙_}
-use mathlib.Core.Bool.{Bool, true, false, true≢false}
+use mathlib.Core.Bool.{Bool, true, false, _&&_}
 use mathlib.Core.List.{List, [], _∷_, _++_, append-assoc, append-nil}
 use Prim.Native.Nat.{ℕ, suc, _+_, _≤_, _<_}
 use native.Mathlib.Numerals.{add-one}
 use native.Mathlib.Omega.{arith}
+use lib.Bits.{bitOr, or-lt, or-add-and, and-le-l, and-le-r}
 use lib.Dec.{ltb}
 use lib.ListN.{length, getD, drop, set, length-append, length-drop, drop-of-length-le}
 use lib.Seq.{take-suc, drop-cons, drop-length, getD-drop, set-at, length-take-le, sets}
-use borrow.Author.Tests.{lt-ltb, le-ltb}
+use borrow.Author.Tests.{lt-ltb, le-ltb, ltb-true}
 use Rattle.bits.specs.Range.{every}
-use Rattle.bits.proofs.Ranges.{by-cases, every-e}
+use Rattle.bits.proofs.Ranges.{and-l, and-r, and-i, iff}
 use Rattle.network.specs.declared.Session.{Session}
 use Rattle.network.specs.declared.Refusal.the-variants.{BufferTooShort, InvalidState}
 use Rattle.network.specs.declared.Answer.{Answer}
@@ -75,8 +76,14 @@ module _ (ws b₀ b : List ℕ) (at i : ℕ) (e : b ≡ part ws at i ++ drop i b
 
 -- ## Testing
 
-pub every-not : (n : ℕ) (p : ℕ → Bool) (i : ℕ) → i < n → p i ≡ false → every n p ≡ false
-every-not n p i h e = by-cases (every n p) (λ t. absurd (true≢false (sym (every-e n p t i h) ∙ e))) (λ f. f)
+-- two words joined by or fit in a byte where both do
+pub or-fits : (a b : ℕ) → ltb (bitOr a b) 256 ≡ (ltb a 256 && ltb b 256)
+or-fits a b =
+    iff (ltb (bitOr a b) 256) (ltb a 256 && ltb b 256)
+    (λ e.
+    let h = ltb-true (bitOr a b) 256 e in
+    and-i (ltb a 256) (ltb b 256) (lt-ltb a 256 (omega (arith, or-add-and a b, and-le-r a b))) (lt-ltb b 256 (omega (arith, or-add-and a b, and-le-l a b))))
+    (λ e. lt-ltb (bitOr a b) 256 (or-lt 8 a b (ltb-true a 256 (and-l (ltb a 256) (ltb b 256) e)) (ltb-true b 256 (and-r (ltb a 256) (ltb b 256) e))))
 
 -- ## The whole session
 

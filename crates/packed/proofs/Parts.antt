@@ -2,12 +2,12 @@
 use mathlib.Core.Path.{_≡_, refl, sym, ap, _∙_}
 use mathlib.Core.Bool.{true}
 use mathlib.Core.List.{List, [], _∷_, _++_, append-assoc}
-use Prim.Native.Nat.{ℕ, zero, suc, _+_, _≤_, _<_}
+use Prim.Native.Nat.{ℕ, zero, suc, _+_, _-_, _≤_, _<_}
 use native.Mathlib.Decide.{decLt}
 use native.Mathlib.Omega.{arith}
 use lib.Dec.{ltb}
-use lib.ListN.{length, getD, take, drop, List·getD-append, List·getD-eq-default}
-use lib.Seq.{take-add, take-at, drop-at, drop-drop, getD-take, getD-drop}
+use lib.ListN.{length, getD, take, drop, set, List·getD-append, List·getD-eq-default}
+use lib.Seq.{take-add, take-at, drop-at, drop-drop, getD-take, getD-drop, take-set-le, take-set-lt, drop-set-lt, drop-set-add}
 use borrow.Author.Tests.{lt-ltb}
 use Rattle.network.specs.declared.Session.{Session}
 use Rattle.network.proofs.Reached.{Bytes}
@@ -32,6 +32,18 @@ three [] h = let z : ⊥ = omega arith in absurd z
 three (x ∷ []) h = let z : ⊥ = omega arith in absurd z
 three (x ∷ y ∷ []) h = let z : ⊥ = omega arith in absurd z
 three (x ∷ y ∷ z ∷ ws) h = refl
+
+-- one place set: a part without it stays, and the part that has it has it set
+pub part-before : (ws : List ℕ) (at c i v : ℕ) → at + c ≤ i → part (set ws i v) at c ≡ part ws at c
+part-before ws at c i v h =
+    let e : i ≡ at + (i - at) = omega arith in
+    ap (λ (j : ℕ). part (set ws j v) at c) e ∙ ap (take c) (drop-set-add at ws (i - at) v) ∙ take-set-le c (drop at ws) (i - at) v (omega arith)
+
+pub part-behind : (ws : List ℕ) (at c i v : ℕ) → i < at → part (set ws i v) at c ≡ part ws at c
+part-behind ws at c i v h = ap (take c) (drop-set-lt at ws i v h)
+
+pub part-set : (ws : List ℕ) (at c k v : ℕ) → k < c → part (set ws (at + k) v) at c ≡ set (part ws at c) k v
+part-set ws at c k v h = ap (take c) (drop-set-add at ws k v) ∙ take-set-lt c (drop at ws) k v h
 
 -- ## Bytes
 

@@ -2,10 +2,10 @@
 ghost use mathlib.Core.Path.{_≡_};
 ghost use Prim.Native.Nat.{ℕ, _+_, _<_, _≤_};
 ghost use lib.Dec.{ltb};
-ghost use lib.ListN.{length, getD};
+ghost use lib.ListN.{length, getD, set};
 ghost use lib.Seq.{sets};
 ghost use Rattle.bits.specs.Range.{every};
-ghost use Rattle.network.specs.Calls.{overwritten};
+ghost use Rattle.network.specs.Calls.{withCurrent, overwritten};
 ghost use Rattle.netwrite.specs.Laid.{Room};
 ghost use Rattle.packed.specs.Packed.{bytesHeld, wordsHeld, packedOf, Sized, part, sessionIn, unpackOf};
 use network::Answer;
@@ -86,19 +86,26 @@ pub fn pack(s: Session, words: &mut [u64])
     pack_words(s, words);
 }
 
+// In words that hold a session, gate g's current table is set: as if the session were packed with it, but one word is written.
+pub fn set_current(words: &mut [u64], g: usize, table: u64)
+    requires { ⌜ (427 ≤ length (now words)) × (g < 40) ⌝ }
+    ensures { λ _. ⌜ now (words .exit) ≡ overwritten (packedOf (withCurrent (sessionIn (now (words .entry))) (set (sessionIn (now (words .entry)) .current) g table))) (now (words .entry)) ⌝ }
+{
+    words[347 + g] = table;
+}
+
 // Whether each of the first c words fits in a byte.
 fn fit(words: &[u64], c: usize) -> bool
     requires { ⌜ c ≤ length (now words) ⌝ }
     ensures { λ r. ⌜ r ≡ every c (λ i. ltb (getD (now (words .entry)) i 0) 256) ⌝ }
 {
+    let mut acc: u64 = 0;
     let mut i: usize = 0;
     while i < c {
-        if 255 < words[i] {
-            return false;
-        }
+        acc = acc | words[i];
         i += 1;
     }
-    true
+    acc < 256
 }
 
 // The words from place at on, as many as there is room for: numbers below 256 as bytes, or as they are.

@@ -1,11 +1,20 @@
 -- `capi::tusqirma_exchange` meets its contract. Assumes nothing.
-use mathlib.Core.Path.{sym, _∙_}
+use mathlib.Core.Path.{sym, ap, _∙_}
+use mathlib.Core.List.{List}
+use Prim.Native.Nat.{ℕ, _-_}
+use lib.ListN.{set}
 use borrow.Author.Needs.{needs}
+use native.Mathlib.Omega.{arith}
 use Rattle.network.specs.Net.{Replacement}
+use Rattle.network.specs.declared.Session.{Session}
+use Rattle.network.specs.Calls.{stored, withCurrent, overwritten}
+use Rattle.network.proofs.Valid.{state-e}
+use Rattle.engine.proofs.Judged.{exchange-named}
+use Rattle.packed.specs.Packed.{packedOf}
 use Rattle.capi.specs.Boundary.{exchangeWork, exchangeCall}
 use Rattle.capi.proofs.Names.{named-room, names-exchange}
 use Rattle.capi.proofs.Laws.{down, opens}
-use Rattle.capi.proofs.Answers.{exchange-answer, exchange-refused, exchange-done}
+use Rattle.capi.proofs.Answers.{judged-refused, judged-done}
 use Rattle.capi.proofs.tusqirma_exchange.Statement.{statement}
 use Rattle.capi.proofs.tusqirma_exchange.Tie as tie
 
@@ -35,8 +44,13 @@ returns c =
 enum-told : tie.Need-enum-told
 enum-told c = search needs
 
-exchange-requires : tie.Need-exchange-requires
-exchange-requires c κs = search needs
+answer-in-requires : tie.Need-answer-in-requires
+answer-in-requires c κs =
+    let t = c .before .before .before in
+    let a = t .before .before .before .before .before .args in
+    let r : Replacement = record { signal = a .gate; table = a .table } in
+    let x = opens (exchangeWork r) (a .session .now) (a .session .now) (a .out .now) (t .before .unpack .ensures) (t .room .ensures) (c .before .enum-told .given .1) in
+    state-e (t .before .unpack .result .session) (x .valid)
 
 enum-known-v : tie.Need-enum-known-v
 enum-known-v c = search needs
@@ -45,12 +59,11 @@ tell-refusal-requires : tie.Need-tell-refusal-requires
 tell-refusal-requires c κs =
     let h = c .before .before in
     let k = h .before .before in
-    let t = k .before .before .before in
+    let t = k .before .before .before .before in
     let a = t .before .before .before .before .before .args in
     let r : Replacement = record { signal = a .gate; table = a .table } in
-    let x = opens (exchangeWork r) (a .session .now) (a .session .now) (a .out .now) (t .before .unpack .ensures) (t .room .ensures) (k .before .enum-told .given .1) in
-    let s = t .before .unpack .result .session in
-    named-room (a .out .now) (sym (exchange-answer s r (k .exchange .ensures)) ∙ h .v .given .1) (names-exchange s r) (x .room)
+    let x = opens (exchangeWork r) (a .session .now) (a .session .now) (a .out .now) (t .before .unpack .ensures) (t .room .ensures) (k .before .before .enum-told .given .1) in
+    named-room (a .out .now) (sym (k .answer-in .ensures) ∙ h .v .given .1) (names-exchange (t .before .unpack .result .session) r) (x .room)
 
 same-length-2 : tie.Need-same-length-2
 same-length-2 c = search needs
@@ -64,23 +77,39 @@ returns-2 c =
     let g = c .before .before in
     let h = g .before .before .before in
     let k = h .before .before in
-    let t = k .before .before .before in
+    let t = k .before .before .before .before in
     let a = t .before .before .before .before .before .args in
     let r : Replacement = record { signal = a .gate; table = a .table } in
-    let x = opens (exchangeWork r) (a .session .now) (a .session .now) (a .out .now) (t .before .unpack .ensures) (t .room .ensures) (k .before .enum-told .given .1) in
-    x .leaves (exchange-refused (t .before .unpack .result .session) r (k .exchange .ensures)
-    (a .session .now) (a .out .now) (h .v .given .1) (g .tell-refusal .ensures .0) (g .tell-refusal .ensures .1))
+    let x = opens (exchangeWork r) (a .session .now) (a .session .now) (a .out .now) (t .before .unpack .ensures) (t .room .ensures) (k .before .before .enum-told .given .1) in
+    let s = t .before .unpack .result .session in
+    x .leaves (judged-refused (packedOf (stored s r)) (a .session .now) (a .out .now) (k .answer-in .ensures) (h .v .given .1) (g .tell-refusal .ensures .0) (g .tell-refusal .ensures .1))
 
 enum-told-2 : tie.Need-enum-told-2
 enum-told-2 c = search needs
 
-pack-requires : tie.Need-pack-requires
-pack-requires c κs =
-    let k = c .before .before .before in
-    let t = k .before .before .before in
+cast-n : tie.Need-cast-n
+cast-n c = search needs
+
+sub-g : tie.Need-sub-g
+sub-g c =
+    let h = c .before in
+    let k = h .before .before in
+    let t = k .before .before .before .before in
+    let a = t .before .before .before .before .before .args in
+    let v = exchange-named (t .before .unpack .result .session) (record { signal = a .gate; table = a .table }) (k .answer-in .ensures) (h .enum-told2 .given .1) in
+    omega (arith, v .low, v .high, v .most)
+
+set-current-requires : tie.Need-set-current-requires
+set-current-requires c κs =
+    let h = c .before .before in
+    let k = h .before .before in
+    let t = k .before .before .before .before in
     let a = t .before .before .before .before .before .args in
     let r : Replacement = record { signal = a .gate; table = a .table } in
-    opens (exchangeWork r) (a .session .now) (a .session .now) (a .out .now) (t .before .unpack .ensures) (t .room .ensures) (k .before .enum-told .given .1) .long
+    let s = t .before .unpack .result .session in
+    let v = exchange-named s r (k .answer-in .ensures) (h .enum-told2 .given .1) in
+    let x = opens (exchangeWork r) (a .session .now) (a .session .now) (a .out .now) (t .before .unpack .ensures) (t .room .ensures) (k .before .before .enum-told .given .1) in
+    (x .long, omega (arith, v .low, v .high, v .most))
 
 same-length-4 : tie.Need-same-length-4
 same-length-4 c = search needs
@@ -88,14 +117,15 @@ same-length-4 c = search needs
 returns-3 : tie.Need-returns-3
 unfolding exchangeCall
 returns-3 c =
-    let h = c .before .before .before .before in
+    let h = c .before .before .before .before .before in
     let k = h .before .before in
-    let t = k .before .before .before in
+    let t = k .before .before .before .before in
     let a = t .before .before .before .before .before .args in
     let r : Replacement = record { signal = a .gate; table = a .table } in
-    let x = opens (exchangeWork r) (a .session .now) (a .session .now) (a .out .now) (t .before .unpack .ensures) (t .room .ensures) (k .before .enum-told .given .1) in
-    x .leaves (exchange-done (t .before .unpack .result .session) r (k .exchange .ensures)
-    (a .session .now) (a .out .now) (h .enum-told2 .given .1) (c .before .before .pack .ensures))
+    let x = opens (exchangeWork r) (a .session .now) (a .session .now) (a .out .now) (t .before .unpack .ensures) (t .room .ensures) (k .before .before .enum-told .given .1) in
+    let s = t .before .unpack .result .session in
+    let laid : Session → List ℕ = λ y. overwritten (packedOf (withCurrent y (set (y .current) (a .gate - s .n) (a .table)))) (a .session .now) in
+    x .leaves (judged-done (packedOf (stored s r)) (a .session .now) (a .out .now) (k .answer-in .ensures) (h .enum-told2 .given .1) (c .before .before .set-current .ensures ∙ ap laid (sym (x .holds))))
 
 pub tusqirma-exchange-spec : {M : Type 1} → statement M
 tusqirma-exchange-spec =
@@ -108,13 +138,15 @@ tusqirma-exchange-spec =
     same-length
     returns
     enum-told
-    exchange-requires
+    answer-in-requires
     enum-known-v
     tell-refusal-requires
     same-length-2
     same-length-3
     returns-2
     enum-told-2
-    pack-requires
+    cast-n
+    sub-g
+    set-current-requires
     same-length-4
     returns-3)

@@ -1,11 +1,6 @@
 -- `engine::exchange` meets its contract. Assumes nothing.
-use mathlib.Core.Path.{sym, _∙_}
-use mathlib.Core.List.{[], _∷_}
 use native.Mathlib.Omega.{arith}
-use Rattle.network.specs.Flat.{loadedNet}
-use Rattle.network.specs.Calls.{tableTest, closedTest, heldClosed, exchangeAnswer}
-use Rattle.network.specs.Net.{Replacement}
-use Rattle.engine.proofs.Judged.{named, exchange-refused, exchange-done}
+use Rattle.engine.proofs.Judged.{exchange-named, exchange-refused, exchange-done}
 use borrow.Author.Needs.{needs}
 use Rattle.engine.proofs.exchange.Statement.{statement}
 use Rattle.engine.proofs.exchange.Tie as tie
@@ -28,33 +23,24 @@ cast-n : tie.Need-cast-n
 cast-n c = search needs
 
 sub-g : tie.Need-sub-g
-unfolding exchangeAnswer
 sub-g c =
     let k = c .before in
     let t = k .before .before in
-    let s = t .before .args .s in
-    let r : Replacement = record { signal = t .before .args .gate; table = t .before .args .table } in
-    let v = named s (r .signal) (tableTest (loadedNet s) r ∷ closedTest (loadedNet s) (heldClosed s (r .signal)) r ∷ []) (sym (t .exchange-answer .ensures) ∙ k .enum-told2 .given .1) in
+    let v = exchange-named (t .before .args .s) (record { signal = t .before .args .gate; table = t .before .args .table }) (t .exchange-answer .ensures) (k .enum-told2 .given .1) in
     omega (arith, v .low, v .high, v .most)
 
 mul-t : tie.Need-mul-t
-unfolding exchangeAnswer
 mul-t c =
     let k = c .before in
     let t = k .before .before in
-    let s = t .before .args .s in
-    let r : Replacement = record { signal = t .before .args .gate; table = t .before .args .table } in
-    let v = named s (r .signal) (tableTest (loadedNet s) r ∷ closedTest (loadedNet s) (heldClosed s (r .signal)) r ∷ []) (sym (t .exchange-answer .ensures) ∙ k .enum-told2 .given .1) in
+    let v = exchange-named (t .before .args .s) (record { signal = t .before .args .gate; table = t .before .args .table }) (t .exchange-answer .ensures) (k .enum-told2 .given .1) in
     omega (arith, v .low, v .high, v .most)
 
 element-write-t : tie.Need-element-write-t
-unfolding exchangeAnswer
 element-write-t c =
     let k = c .before in
     let t = k .before .before in
-    let s = t .before .args .s in
-    let r : Replacement = record { signal = t .before .args .gate; table = t .before .args .table } in
-    let v = named s (r .signal) (tableTest (loadedNet s) r ∷ closedTest (loadedNet s) (heldClosed s (r .signal)) r ∷ []) (sym (t .exchange-answer .ensures) ∙ k .enum-told2 .given .1) in
+    let v = exchange-named (t .before .args .s) (record { signal = t .before .args .gate; table = t .before .args .table }) (t .exchange-answer .ensures) (k .enum-told2 .given .1) in
     omega (arith, v .low, v .high, v .most)
 
 returns-2 : tie.Need-returns-2
