@@ -31,12 +31,12 @@ use Rattle.network.specs.Tests.{first}
 use Rattle.network.specs.State.{stateTest}
 use Rattle.network.specs.Load.{loadOf}
 use Rattle.network.specs.Calls.{gateTest, gateTables, givenTables, tablesOf, roomTest, overwritten, filled, writeAnswer, countsOf}
-use Rattle.network.proofs.TestLaws.{refused-done, count-e}
+use Rattle.network.proofs.TestLaws.{refused-done, alone, count-e}
 use Rattle.network.proofs.Valid.{valid-e, state-e}
 use Rattle.netwrite.specs.Laid.{Laid}
 use Rattle.netwrite.proofs.Laws.{laid-append, laid-length, laid-start, part-places}
 use Rattle.dontcares.specs.Framed.{Tabled}
-use Rattle.engine.proofs.Judged.{alone, counts-done}
+use Rattle.engine.proofs.Laws.{counts-done}
 use Rattle.packed.specs.Packed.{packedOf, sessionWords}
 use Rattle.capi.specs.Boundary.{Left, left, loadAnswer, loadCall, tableWords, tablesWork, allTableWords}
 use Rattle.capi.proofs.Names.{Names, names-first, names-room, names-state, names-gate}

@@ -128,7 +128,7 @@ pub extern "C" fn tusqirma_verdict(session: &[u64], gate: usize, table: u64, out
     if let Answer::Refused(r) = a {
         return render::number_of(r);
     }
-    let v = engine::verdict_in(l.session, gate, table);
+    let v = answers::verdict(l.session, gate, table);
     if let Answer::Refused(r) = v {
         return tell_refusal(r, out);
     }
@@ -152,7 +152,7 @@ pub extern "C" fn tusqirma_exchange(
         return render::number_of(r);
     }
     let s = l.session;
-    let v = engine::answer_in(s, gate, table);
+    let v = answers::exchange(s, gate, table);
     if let Answer::Refused(r) = v {
         return tell_refusal(r, out);
     }

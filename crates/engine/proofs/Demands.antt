@@ -19,13 +19,13 @@ use Rattle.network.specs.Net.{Net, isGate, patterns, Replacement}
 use Rattle.network.specs.Compatible.{compatibleCount, openTable}
 use Rattle.network.specs.Flat.{loadedNet}
 use Rattle.network.specs.Valid.{Shaped}
-use Rattle.network.specs.Tests.{orElse, first}
+use Rattle.network.specs.Tests.{first}
 use Rattle.network.specs.State.{stateTest}
 use Rattle.network.specs.Load.{loadDone, onward, readOf, opened, loadOf}
 use Rattle.network.specs.Write.{bytesOf}
 use Rattle.network.specs.Calls.{gateTest, tableTest, harmTest, exchangeTests, heldClosed, exchangeAnswer, exchanged, exchangeOf, verdictOf, gateTables, givenTables, tablesOf, Filled, roomTest, overwritten, filled, setWords, patternSetsOf, writeOf, countsFor, countsOf}
 use Rattle.network.specs.Sessions.{after, lastAccepted, NoHarm, FirstHarm}
-use Rattle.network.proofs.TestLaws.{count-e}
+use Rattle.network.proofs.TestLaws.{alone, count-e}
 use Rattle.network.proofs.Valid.{valid-e, state-e, state-i}
 use Rattle.network.proofs.Fresh.{Fresh}
 use Rattle.network.proofs.Exchanges.{loaded-length, loaded-inputs, gate-e, open-at, gates-most, after-is, after-valid, after-loaded}
@@ -96,11 +96,7 @@ module _ (s : Session) (v : stateTest s ≡ Done) where
 -- the verdict of a lone replacement is the search for harm
 verdict-is : (s : Session) (r : Replacement) → Judged s r → verdictOf s r ≡ harmTest (loadedNet s) (lone s r)
 unfolding verdictOf gateTest tableTest
-verdict-is s r j = rw (j .0, j .1, j .2) (last (harmTest (loadedNet s) (lone s r)))
-  where
-    last : (a : Answer) → orElse a Done ≡ a
-    last Done = refl
-    last (Refused f) = refl
+verdict-is s r j = rw (j .0, j .1, j .2) (sym (alone (harmTest (loadedNet s) (lone s r))))
 
 -- what is said of an answer, said of one that equals it
 same-answer : {P : Type 0} (a b c : Answer) → a ≡ b → (b ≡ c) ↔ P → (a ≡ c) ↔ P

@@ -1,59 +1,96 @@
--- The lowest closed entry that a table alters, off one word. Assumes nothing.
-use mathlib.Core.Path.{_≡_, refl, sym, ap, ap₂, _∙_}
-use mathlib.Core.Bool.{Bool, true, false, not, _&&_}
-use Prim.Native.Nat.{ℕ, _≤_, _<_}
-use native.Mathlib.Decide.{decLt}
+-- What each call gives by the answer of its tests. Assumes nothing.
+use mathlib.Core.Path.{_≡_, refl, sym, _∙_}
+use mathlib.Core.List.{List, [], _∷_}
+use Prim.Native.Nat.{ℕ, _+_, _-_, _≤_, _<_}
 use native.Mathlib.Omega.{arith}
-use lib.Dec.{ltb}
-use lib.Bits.{bitAnd, bitXor}
-use borrow.Author.Tests.{lt-ltb, le-ltb}
-use Rattle.bits.specs.declared.Found.the-variants.{At, Nothing}
-use Rattle.bits.specs.Range.{smallest}
-use Rattle.bits.specs.Bit.{bit, differs}
-use Rattle.bits.proofs.BitLaws.{bit-and, bit-xor, bit-zero}
-use Rattle.bits.proofs.Ranges.{and-r}
-use Rattle.bits.proofs.Logic.{clash}
-use Rattle.bits.proofs.Search.{smallest-eq}
-use Rattle.network.specs.declared.Refusal.the-variants.{ClosedEntry}
+use lib.ListN.{length, getD, replicate}
+use borrow.Author.Tests.{le-ltb, lt-ltb}
+use Rattle.network.specs.declared.Session.{Session}
+use Rattle.network.specs.declared.Refusal.{Refusal}
+use Rattle.network.specs.declared.Refusal.the-variants.{BufferTooShort, InvalidState}
+use Rattle.network.specs.declared.TablesAnswer.the-variants as tables
+use Rattle.network.specs.declared.Answer.{Answer}
 use Rattle.network.specs.declared.Answer.the-variants.{Done, Refused}
-use Rattle.network.specs.Calls.{entryFound}
+use Rattle.network.specs.Net.{Replacement}
+use Rattle.network.specs.DontCares.{sdc, cdc, full}
+use Rattle.network.specs.Flat.{loadedNet, currentNet}
+use Rattle.network.specs.Tests.{first}
+use Rattle.network.specs.State.{stateFault, asInvalid, stateTest}
+use Rattle.network.specs.Load.{loadDone, loadRefused, opened, readOf, loadOf}
+use Rattle.network.specs.Calls.{gateTest, stored, exchangeAnswer, exchangeOf, Filled, roomTest, overwritten, filled, tablesOf, countsFor, countsOf}
+use Rattle.network.proofs.TestLaws.{refused-done}
+use Rattle.network.proofs.Reached.{opened-fault, loaded-fresh}
 
-and-swap : (a b : Bool) → a && (b && true) ≡ b && a
-and-swap true true = refl
-and-swap true false = refl
-and-swap false true = refl
-and-swap false false = refl
+-- ## Exchange, and calls that fill a buffer
 
-module _ (E opens loaded table others mask : ℕ) (room : E ≤ 64) (inverted : (i : ℕ) → i < 64 → bit others i ≡ not (bit opens i)) (masked : (i : ℕ) → bit mask i ≡ ltb i E) where
-  abbrev altered : ℕ
-  altered = bitAnd (bitXor loaded table) (bitAnd others mask)
+pub exchange-refused : (s : Session) (r : Replacement) {a : Answer} {f : Refusal} → a ≡ exchangeAnswer s r → a ≡ Refused f → record { answer = a; session = s } ≡ exchangeOf s r
+unfolding exchangeOf
+exchange-refused s r e k = rw (sym e ∙ k, k)
 
-  abbrev shut : ℕ → Bool
-  shut t = not (bit opens t) && differs (bit loaded t) (bit table t)
+pub exchange-done : (s : Session) (r : Replacement) {a : Answer} → a ≡ exchangeAnswer s r → a ≡ Done → record { answer = Done; session = stored s r } ≡ exchangeOf s r
+unfolding exchangeOf
+exchange-done s r e k = rw (sym e ∙ k)
 
-  altered-bit : (t : ℕ) → bit altered t ≡ differs (bit loaded t) (bit table t) && (bit others t && ltb t E)
-  altered-bit t =
-      bit-and (bitXor loaded table) (bitAnd others mask) t
-      ∙ ap₂ (λ (x y : Bool). x && y) (bit-xor loaded table t) (bit-and others mask t ∙ ap (λ (x : Bool). bit others t && x) (masked t))
+invalid : (a : Answer) {r : Refusal} → asInvalid a ≡ Refused r → Refused InvalidState ≡ asInvalid a
+invalid Done e = absurd (refused-done _ (sym e))
+invalid (Refused r) e = refl
 
-  altered-at : (t : ℕ) → t < E → bit altered t ≡ shut t
-  altered-at t h =
-      altered-bit t
-      ∙ ap₂ (λ (x y : Bool). differs (bit loaded t) (bit table t) && (x && y)) (inverted t (omega arith)) (lt-ltb t E h)
-      ∙ and-swap (differs (bit loaded t) (bit table t)) (not (bit opens t))
+-- 10 is the one refusal of a state
+pub state-refused : (s : Session) {a : Answer} {r : Refusal} → a ≡ stateTest s → a ≡ Refused r → Refused InvalidState ≡ stateTest s
+unfolding stateTest
+state-refused s e k = invalid (stateFault s) (sym e ∙ k)
 
-  -- a bit that is set is that of an entry
-  inside : (t : ℕ) → bit altered t ≡ true → t < E
-  inside t e = go (decLt t E)
-    where
-      go : Dec (t < E) → t < E
-      go (yes h) = h
-      go (no n) = clash (and-r (bit others t) (ltb t E) (and-r (differs (bit loaded t) (bit table t)) (bit others t && ltb t E) (sym (altered-bit t) ∙ e))) (le-ltb t E (omega arith))
+-- a call that fills a lent buffer with `new`: 10, then 9
+abbrev pub filling : Session → List ℕ → List ℕ → Filled
+filling s new buffer = filled (first (stateTest s ∷ roomTest (length new) buffer ∷ [])) new buffer
 
-  pub none-closed : altered ≡ 0 → Done ≡ entryFound (smallest E shut)
-  none-closed z = sym (ap entryFound (smallest-eq E shut Nothing (λ i h. sym (altered-at i h) ∙ ap (λ (x : ℕ). bit x i) z ∙ bit-zero i)))
+module _ (s : Session) (new buffer : List ℕ) where
+  pub filling-invalid : {r : Refusal} → stateTest s ≡ Refused r → filling s new buffer ≡ record { answer = Refused r; buffer = buffer }
+  filling-invalid e = rw e
 
-  pub lowest-closed : (t : ℕ) → bit altered t ≡ true → ((i : ℕ) → i < t → bit altered i ≡ false) → Refused (ClosedEntry t) ≡ entryFound (smallest E shut)
-  lowest-closed t e below =
-      let h = inside t e in
-      sym (ap entryFound (smallest-eq E shut (At t) (h, sym (altered-at t h) ∙ e, λ i l. sym (altered-at i (omega arith)) ∙ below i l)))
+  pub filling-short : stateTest s ≡ Done → length buffer < length new → filling s new buffer ≡ record { answer = Refused BufferTooShort; buffer = buffer }
+  filling-short e h = rw (e, lt-ltb (length buffer) (length new) h)
+
+  pub filling-done : stateTest s ≡ Done → length new ≤ length buffer → filling s new buffer ≡ record { answer = Done; buffer = overwritten new buffer }
+  filling-done e h = rw (e, le-ltb (length buffer) (length new) h)
+
+-- ## Tables
+
+module _ (s : Session) (k : ℕ) where
+  pub tables-refused : {r : Refusal} → first (stateTest s ∷ gateTest (loadedNet s) k ∷ []) ≡ Refused r → tables.Refused r ≡ tablesOf s k
+  unfolding tablesOf
+  tables-refused e = rw e
+
+  -- the tables of the gate's place
+  pub tables-done : first (stateTest s ∷ gateTest (loadedNet s) k ∷ []) ≡ Done → s .n ≤ k → {d c f : ℕ}
+      → d ≡ sdc (currentNet s) (s .n + (k - s .n)) → c ≡ cdc (currentNet s) (s .n + (k - s .n)) → f ≡ full (currentNet s) (s .n + (k - s .n))
+      → tables.Given (record { sdc = d; cdc = c; full = f; open_table = getD (s .open_tables) (k - s .n) 0 }) ≡ tablesOf s k
+  unfolding tablesOf
+  tables-done e h p q r =
+      let back : s .n + (k - s .n) ≡ k = omega arith in
+      rw (e, p, q, r, back)
+
+-- ## Counts and load
+
+pub counts-refused : (s : Session) {a : Answer} {r : Refusal} → a ≡ stateTest s → a ≡ Refused r → record { answer = a; counts = replicate 40 0 } ≡ countsOf s
+unfolding countsOf
+counts-refused s e k = rw (sym e ∙ k, k)
+
+pub counts-done : (s : Session) → stateTest s ≡ Done → countsFor Done s ≡ countsOf s
+unfolding countsOf
+counts-done s e = rw e
+
+module _ (bytes : List ℕ) where
+  pub load-refused : {r : Refusal} → readOf bytes .answer ≡ Refused r → loadRefused r ≡ loadOf bytes
+  unfolding loadOf
+  load-refused e = rw e
+
+  pub load-done : readOf bytes .answer ≡ Done → loadDone (opened (readOf bytes .session)) ≡ loadOf bytes
+  unfolding loadOf
+  load-done e = rw e
+
+  -- what is read passes refusal 10's test
+  pub read-valid : readOf bytes .answer ≡ Done → stateFault (readOf bytes .session) ≡ Done
+  read-valid e =
+      let s = readOf bytes .session in
+      sym (opened-fault s) ∙ loaded-fresh bytes (opened s) (sym (load-done e)) .valid

@@ -1,4 +1,3 @@
 pub mod Laws
-pub mod Judged
 pub mod Outcomes
 pub mod Demands

@@ -1,19 +1,14 @@
 // The calls of the engine. None has a `requires`: whatever is passed, a call gives what its definition says, refusals included.
-// `answer_in` and `verdict_in` are for a caller that has tested the session itself.
 ghost use mathlib.Core.Path.{_≡_};
-ghost use mathlib.Core.Bool.{not, _&&_};
 ghost use mathlib.Core.List.{[], _∷_};
-ghost use Prim.Native.Nat.{_+_, _-_, _^_, _<_, _≤_};
 ghost use lib.ListN.{length};
-ghost use Rattle.bits.specs.Range.{smallest};
-ghost use Rattle.bits.specs.Bit.{bit, differs};
 ghost use Rattle.network.specs.declared.Answer.the-variants.{Done};
 ghost use Rattle.network.specs.Flat.{loadedNet};
 ghost use Rattle.network.specs.Tests.{first};
 ghost use Rattle.network.specs.State.{stateFault, stateTest};
 ghost use Rattle.network.specs.Load.{loadOf, loadDone, opened};
 ghost use Rattle.network.specs.Write.{bytesOf};
-ghost use Rattle.network.specs.Calls.{gateTest, tableTest, entryFound, exchangeAnswer, exchangeOf, verdictOf, tablesOf, patternSetsOf, writeAnswer, writeOf, countsOf};
+ghost use Rattle.network.specs.Calls.{gateTest, exchangeAnswer, exchangeOf, verdictOf, tablesOf, patternSetsOf, writeAnswer, writeOf, countsOf};
 use network::Answer;
 use network::Counts;
 use network::Exchanged;
@@ -24,86 +19,6 @@ use network::Tables;
 use network::TablesAnswer;
 use network::WriteAnswer;
 
-// The lowest entry of k fan-ins' tables that differs and is not open.
-fn first_closed(k: u8, loaded: u64, table: u64, opens: u64) -> Answer
-    requires { ⌜ k ≤ 4 ⌝ }
-    ensures { λ r. ⌜ r ≡ entryFound (smallest (2 ^ k) (λ t. not (bit opens t) && differs (bit loaded t) (bit table t))) ⌝ }
-{
-    let entries = entries::entry_count(network::place(k));
-    let altered = (loaded ^ table) & (bits::invert(opens) & bits::mask(entries));
-    if altered == 0 {
-        return Answer::Done;
-    }
-    let t = bits::first(altered);
-    Answer::Refused(Refusal::ClosedEntry(t as usize))
-}
-
-// 11, of a valid session.
-fn gate_in(s: Session, gate: usize) -> Answer
-    requires { ⌜ stateFault s ≡ Done ⌝ }
-    ensures { λ r. ⌜ r ≡ first (stateTest s ∷ gateTest (loadedNet s) gate ∷ []) ⌝ }
-{
-    let n = s.n as usize;
-    let m = s.m as usize;
-    if gate < n {
-        return Answer::Refused(Refusal::NotAGate);
-    }
-    if n + m <= gate {
-        return Answer::Refused(Refusal::NotAGate);
-    }
-    Answer::Done
-}
-
-// 11, then 12.
-fn table_in(s: Session, gate: usize, table: u64) -> Answer
-    requires { ⌜ stateFault s ≡ Done ⌝ }
-    ensures { λ r. ⌜ r ≡ first (stateTest s ∷ gateTest (loadedNet s) gate ∷ tableTest (loadedNet s) (record { signal = gate; table = table }) ∷ []) ⌝ }
-{
-    let a = gate_in(s, gate);
-    if let Answer::Refused(_) = a {
-        return a;
-    }
-    let n = s.n as usize;
-    let g = gate - n;
-    let k = s.arity[g];
-    let w = state::table_test(k, table);
-    if let Answer::Refused(_) = w {
-        return Answer::Refused(Refusal::TableTooWide);
-    }
-    Answer::Done
-}
-
-// What an exchange in a valid session is answered: the first of 11 to 13 that applies.
-pub fn answer_in(s: Session, gate: usize, table: u64) -> Answer
-    requires { ⌜ stateFault s ≡ Done ⌝ }
-    ensures { λ r. ⌜ r ≡ exchangeAnswer s (record { signal = gate; table = table }) ⌝ }
-{
-    let a = table_in(s, gate, table);
-    if let Answer::Refused(_) = a {
-        return a;
-    }
-    let n = s.n as usize;
-    let g = gate - n;
-    let k = s.arity[g];
-    let loaded = s.loaded[g];
-    let opens = s.open_tables[g];
-    first_closed(k, loaded, table, opens)
-}
-
-// The verdict in a valid session.
-pub fn verdict_in(s: Session, gate: usize, table: u64) -> Answer
-    requires { ⌜ stateFault s ≡ Done ⌝ }
-    ensures { λ r. ⌜ r ≡ verdictOf s (record { signal = gate; table = table }) ⌝ }
-{
-    let a = table_in(s, gate, table);
-    if let Answer::Refused(_) = a {
-        return a;
-    }
-    let n = s.n as usize;
-    let g = gate - n;
-    verdict::harm(s, g, table)
-}
-
 // What an exchange is answered: 10, then as in a valid session.
 fn exchange_answer(s: Session, gate: usize, table: u64) -> Answer
     ensures { λ r. ⌜ r ≡ exchangeAnswer s (record { signal = gate; table = table }) ⌝ }
@@ -112,7 +27,7 @@ fn exchange_answer(s: Session, gate: usize, table: u64) -> Answer
     if let Answer::Refused(_) = v {
         return v;
     }
-    answer_in(s, gate, table)
+    answers::exchange(s, gate, table)
 }
 
 // Sets a gate's current table, where the session's compatible sets leave it free.
@@ -144,7 +59,7 @@ pub fn verdict(s: Session, gate: usize, table: u64) -> Answer
     if let Answer::Refused(_) = v {
         return v;
     }
-    verdict_in(s, gate, table)
+    answers::verdict(s, gate, table)
 }
 
 // 10, then 11.
@@ -155,7 +70,7 @@ fn gate_test(s: Session, gate: usize) -> Answer
     if let Answer::Refused(_) = v {
         return v;
     }
-    gate_in(s, gate)
+    answers::gate_test(s, gate)
 }
 
 // The SDC, CDC, full and open table of a gate.

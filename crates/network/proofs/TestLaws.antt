@@ -1,8 +1,8 @@
--- What a list of tests says: each test of a list that refuses nothing, what each test of 3 to 7 shows, and a load that went on.
--- Assumes nothing.
-use mathlib.Core.Path.{_≡_, refl, ap}
+-- What a list of tests says: each test of a list that refuses nothing, tests that stand before others, what each test of 3 to 7
+-- shows, and a load that went on. Assumes nothing.
+use mathlib.Core.Path.{_≡_, refl, sym, ap, _∙_}
 use mathlib.Core.Bool.{Bool, true, false, not, _&&_}
-use mathlib.Core.List.{List, [], _∷_, map}
+use mathlib.Core.List.{List, [], _∷_, _++_, map}
 use Prim.Native.Nat.{ℕ, zero, suc, _+_, _^_, _≤_, _<_}
 use native.Mathlib.Nat.{add-zero, zero-add}
 use native.Mathlib.Omega.{arith}
@@ -51,6 +51,23 @@ clear-e (a ∷ rest) h = let b = both a (first rest) h in (b .0, clear-e rest (b
 pub clear-i : (tests : List Answer) → Clear tests → first tests ≡ Done
 clear-i [] h = refl
 clear-i (a ∷ rest) h = rw (h .0) (clear-i rest (h .1))
+
+pub alone : (a : Answer) → a ≡ first (a ∷ [])
+alone Done = refl
+alone (Refused r) = refl
+
+first-append : (xs ys : List Answer) → first (xs ++ ys) ≡ orElse (first xs) (first ys)
+first-append [] ys = refl
+first-append (Done ∷ xs) ys = first-append xs ys
+first-append (Refused r ∷ xs) ys = refl
+
+-- v is the answer of the tests xs, which stand before ys
+module _ {v : Answer} (xs ys : List Answer) (e : v ≡ first xs) where
+  pub stopped : {r : Refusal} → v ≡ Refused r → v ≡ first (xs ++ ys)
+  stopped k = k ∙ sym (first-append xs ys ∙ ap (λ (a : Answer). orElse a (first ys)) (sym e ∙ k))
+
+  pub went-on : v ≡ Done → first ys ≡ first (xs ++ ys)
+  went-on k = sym (first-append xs ys ∙ ap (λ (a : Answer). orElse a (first ys)) (sym e ∙ k))
 
 -- one test for each number
 each-from : (p : ℕ → Answer) (a c : ℕ) → first (map p (upFrom a c)) ≡ Done → (d : ℕ) → d < c → p (a + d) ≡ Done

@@ -9,7 +9,7 @@ use Rattle.network.specs.Net.{Replacement}
 use Rattle.network.specs.declared.Session.{Session}
 use Rattle.network.specs.Calls.{stored, withCurrent, overwritten}
 use Rattle.network.proofs.Valid.{state-e}
-use Rattle.engine.proofs.Judged.{exchange-named}
+use Rattle.answers.proofs.Named.{exchange-named}
 use Rattle.packed.specs.Packed.{packedOf}
 use Rattle.capi.specs.Boundary.{exchangeWork, exchangeCall}
 use Rattle.capi.proofs.Names.{named-room, names-exchange}
@@ -44,8 +44,8 @@ returns c =
 enum-told : tie.Need-enum-told
 enum-told c = search needs
 
-answer-in-requires : tie.Need-answer-in-requires
-answer-in-requires c κs =
+exchange-requires : tie.Need-exchange-requires
+exchange-requires c κs =
     let t = c .before .before .before in
     let a = t .before .before .before .before .before .args in
     let r : Replacement = record { signal = a .gate; table = a .table } in
@@ -63,7 +63,7 @@ tell-refusal-requires c κs =
     let a = t .before .before .before .before .before .args in
     let r : Replacement = record { signal = a .gate; table = a .table } in
     let x = opens (exchangeWork r) (a .session .now) (a .session .now) (a .out .now) (t .before .unpack .ensures) (t .room .ensures) (k .before .before .enum-told .given .1) in
-    named-room (a .out .now) (sym (k .answer-in .ensures) ∙ h .v .given .1) (names-exchange (t .before .unpack .result .session) r) (x .room)
+    named-room (a .out .now) (sym (k .exchange .ensures) ∙ h .v .given .1) (names-exchange (t .before .unpack .result .session) r) (x .room)
 
 same-length-2 : tie.Need-same-length-2
 same-length-2 c = search needs
@@ -82,7 +82,7 @@ returns-2 c =
     let r : Replacement = record { signal = a .gate; table = a .table } in
     let x = opens (exchangeWork r) (a .session .now) (a .session .now) (a .out .now) (t .before .unpack .ensures) (t .room .ensures) (k .before .before .enum-told .given .1) in
     let s = t .before .unpack .result .session in
-    x .leaves (judged-refused (packedOf (stored s r)) (a .session .now) (a .out .now) (k .answer-in .ensures) (h .v .given .1) (g .tell-refusal .ensures .0) (g .tell-refusal .ensures .1))
+    x .leaves (judged-refused (packedOf (stored s r)) (a .session .now) (a .out .now) (k .exchange .ensures) (h .v .given .1) (g .tell-refusal .ensures .0) (g .tell-refusal .ensures .1))
 
 enum-told-2 : tie.Need-enum-told-2
 enum-told-2 c = search needs
@@ -96,7 +96,7 @@ sub-g c =
     let k = h .before .before in
     let t = k .before .before .before .before in
     let a = t .before .before .before .before .before .args in
-    let v = exchange-named (t .before .unpack .result .session) (record { signal = a .gate; table = a .table }) (k .answer-in .ensures) (h .enum-told2 .given .1) in
+    let v = exchange-named (t .before .unpack .result .session) (record { signal = a .gate; table = a .table }) (k .exchange .ensures) (h .enum-told2 .given .1) in
     omega (arith, v .low, v .high, v .most)
 
 set-current-requires : tie.Need-set-current-requires
@@ -107,7 +107,7 @@ set-current-requires c κs =
     let a = t .before .before .before .before .before .args in
     let r : Replacement = record { signal = a .gate; table = a .table } in
     let s = t .before .unpack .result .session in
-    let v = exchange-named s r (k .answer-in .ensures) (h .enum-told2 .given .1) in
+    let v = exchange-named s r (k .exchange .ensures) (h .enum-told2 .given .1) in
     let x = opens (exchangeWork r) (a .session .now) (a .session .now) (a .out .now) (t .before .unpack .ensures) (t .room .ensures) (k .before .before .enum-told .given .1) in
     (x .long, omega (arith, v .low, v .high, v .most))
 
@@ -125,7 +125,7 @@ returns-3 c =
     let x = opens (exchangeWork r) (a .session .now) (a .session .now) (a .out .now) (t .before .unpack .ensures) (t .room .ensures) (k .before .before .enum-told .given .1) in
     let s = t .before .unpack .result .session in
     let laid : Session → List ℕ = λ y. overwritten (packedOf (withCurrent y (set (y .current) (a .gate - s .n) (a .table)))) (a .session .now) in
-    x .leaves (judged-done (packedOf (stored s r)) (a .session .now) (a .out .now) (k .answer-in .ensures) (h .enum-told2 .given .1) (c .before .before .set-current .ensures ∙ ap laid (sym (x .holds))))
+    x .leaves (judged-done (packedOf (stored s r)) (a .session .now) (a .out .now) (k .exchange .ensures) (h .enum-told2 .given .1) (c .before .before .set-current .ensures ∙ ap laid (sym (x .holds))))
 
 pub tusqirma-exchange-spec : {M : Type 1} → statement M
 tusqirma-exchange-spec =
@@ -138,7 +138,7 @@ tusqirma-exchange-spec =
     same-length
     returns
     enum-told
-    answer-in-requires
+    exchange-requires
     enum-known-v
     tell-refusal-requires
     same-length-2

@@ -6,7 +6,7 @@ use borrow.Author.Needs.{needs}
 use Rattle.network.specs.Tests.{first}
 use Rattle.network.specs.State.{stateTest}
 use Rattle.network.specs.Calls.{roomTest, setWords, patternSetsOf}
-use Rattle.engine.proofs.Judged.{alone}
+use Rattle.network.proofs.TestLaws.{alone}
 use Rattle.capi.specs.Boundary.{patternSetsWork, patternSetsCall}
 use Rattle.capi.proofs.Laws.{down, opens}
 use Rattle.capi.proofs.Answers.{filled-refused, filled-done, names-filling}

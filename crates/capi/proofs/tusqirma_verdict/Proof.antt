@@ -35,8 +35,8 @@ returns c =
 enum-told : tie.Need-enum-told
 enum-told c = search needs
 
-verdict-in-requires : tie.Need-verdict-in-requires
-verdict-in-requires c κs =
+verdict-requires : tie.Need-verdict-requires
+verdict-requires c κs =
     let t = c .before .before in
     let a = t .before .before .before .before .args in
     let r : Replacement = record { signal = a .gate; table = a .table } in
@@ -54,7 +54,7 @@ tell-refusal-requires c κs =
     let a = t .before .before .before .before .args in
     let r : Replacement = record { signal = a .gate; table = a .table } in
     let x = opens (verdictWork r) (a .session .now) [] (a .out .now) (t .before .unpack .ensures) (t .room .ensures) (k .before .enum-told .given .1) in
-    named-room (a .out .now) (sym (k .verdict-in .ensures) ∙ h .v .given .1) (names-verdict (t .before .unpack .result .session) r) (x .room)
+    named-room (a .out .now) (sym (k .verdict .ensures) ∙ h .v .given .1) (names-verdict (t .before .unpack .result .session) r) (x .room)
 
 same-length : tie.Need-same-length
 same-length c = search needs
@@ -69,7 +69,7 @@ returns-2 c =
     let a = t .before .before .before .before .args in
     let r : Replacement = record { signal = a .gate; table = a .table } in
     let x = opens (verdictWork r) (a .session .now) [] (a .out .now) (t .before .unpack .ensures) (t .room .ensures) (k .before .enum-told .given .1) in
-    let v = x .leaves (judged-refused [] [] (a .out .now) (k .verdict-in .ensures) (h .v .given .1)
+    let v = x .leaves (judged-refused [] [] (a .out .now) (k .verdict .ensures) (h .v .given .1)
     (g .tell-refusal .ensures .0) (g .tell-refusal .ensures .1)) in
     (v .0, v .2)
 
@@ -84,7 +84,7 @@ returns-3 c =
     let a = t .before .before .before .before .args in
     let r : Replacement = record { signal = a .gate; table = a .table } in
     let x = opens (verdictWork r) (a .session .now) [] (a .out .now) (t .before .unpack .ensures) (t .room .ensures) (k .before .enum-told .given .1) in
-    let v = x .leaves (judged-done [] [] (a .out .now) (k .verdict-in .ensures) (c .enum-told2 .given .1) refl) in
+    let v = x .leaves (judged-done [] [] (a .out .now) (k .verdict .ensures) (c .enum-told2 .given .1) refl) in
     (v .0, v .2)
 
 pub tusqirma-verdict-spec : {M : Type 1} → statement M
@@ -97,7 +97,7 @@ tusqirma-verdict-spec =
     number-of-requires
     returns
     enum-told
-    verdict-in-requires
+    verdict-requires
     enum-known-v
     tell-refusal-requires
     same-length

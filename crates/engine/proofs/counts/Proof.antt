@@ -5,7 +5,7 @@ use Prim.Native.Nat.{ℕ}
 use Rattle.network.specs.declared.Answer.the-variants.{Done}
 use Rattle.network.specs.declared.Counts.{Counts}
 use Rattle.network.proofs.Valid.{state-e}
-use Rattle.engine.proofs.Judged.{counts-refused, counts-done}
+use Rattle.engine.proofs.Laws.{counts-refused, counts-done}
 use borrow.Author.Needs.{needs}
 use Rattle.engine.proofs.counts.Statement.{statement}
 use Rattle.engine.proofs.counts.Tie as tie

@@ -1,6 +1,7 @@
 -- `engine::exchange` meets its contract. Assumes nothing.
 use native.Mathlib.Omega.{arith}
-use Rattle.engine.proofs.Judged.{exchange-named, exchange-refused, exchange-done}
+use Rattle.answers.proofs.Named.{exchange-named}
+use Rattle.engine.proofs.Laws.{exchange-refused, exchange-done}
 use borrow.Author.Needs.{needs}
 use Rattle.engine.proofs.exchange.Statement.{statement}
 use Rattle.engine.proofs.exchange.Tie as tie

@@ -6,7 +6,7 @@ use Rattle.network.specs.Flat.{loadedNet}
 use Rattle.network.specs.State.{stateTest}
 use Rattle.network.specs.Calls.{exchangeTests, heldClosed, exchangeAnswer}
 use Rattle.network.proofs.Valid.{state-e}
-use Rattle.engine.proofs.Judged.{alone, stopped}
+use Rattle.network.proofs.TestLaws.{alone, stopped}
 use borrow.Author.Needs.{needs}
 use Rattle.engine.proofs.exchange_answer.Statement.{statement}
 use Rattle.engine.proofs.exchange_answer.Tie as tie
@@ -28,15 +28,15 @@ returns c =
 enum-told-2 : tie.Need-enum-told-2
 enum-told-2 c = search needs
 
-answer-in-requires : tie.Need-answer-in-requires
-answer-in-requires c κs =
+exchange-requires : tie.Need-exchange-requires
+exchange-requires c κs =
     let t = c .before .before in
     state-e (t .before .args .s) (sym (t .state-test .ensures) ∙ c .enum-told2 .given .1)
 
 returns-2 : tie.Need-returns-2
-returns-2 c = c .answer-in .ensures
+returns-2 c = c .exchange .ensures
 
 pub exchange-answer-spec : {M : Type 1} → statement M
 exchange-answer-spec =
     tie.close
-    (tie.spec state-test-requires enum-told returns enum-told-2 answer-in-requires returns-2)
+    (tie.spec state-test-requires enum-told returns enum-told-2 exchange-requires returns-2)

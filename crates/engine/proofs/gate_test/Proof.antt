@@ -5,7 +5,7 @@ use Rattle.network.specs.Flat.{loadedNet}
 use Rattle.network.specs.State.{stateTest}
 use Rattle.network.specs.Calls.{gateTest}
 use Rattle.network.proofs.Valid.{state-e}
-use Rattle.engine.proofs.Judged.{alone, stopped}
+use Rattle.network.proofs.TestLaws.{alone, stopped}
 use borrow.Author.Needs.{needs}
 use Rattle.engine.proofs.gate_test.Statement.{statement}
 use Rattle.engine.proofs.gate_test.Tie as tie
@@ -25,15 +25,15 @@ returns c =
 enum-told-2 : tie.Need-enum-told-2
 enum-told-2 c = search needs
 
-gate-in-requires : tie.Need-gate-in-requires
-gate-in-requires c κs =
+gate-test-requires : tie.Need-gate-test-requires
+gate-test-requires c κs =
     let t = c .before .before in
     state-e (t .before .args .s) (sym (t .state-test .ensures) ∙ c .enum-told2 .given .1)
 
 returns-2 : tie.Need-returns-2
-returns-2 c = c .gate-in .ensures
+returns-2 c = c .gate-test .ensures
 
 pub gate-test-spec : {M : Type 1} → statement M
 gate-test-spec =
     tie.close
-    (tie.spec state-test-requires enum-told returns enum-told-2 gate-in-requires returns-2)
+    (tie.spec state-test-requires enum-told returns enum-told-2 gate-test-requires returns-2)

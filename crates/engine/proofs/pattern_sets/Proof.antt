@@ -5,7 +5,7 @@ use native.Mathlib.Omega.{arith}
 use lib.ListN.{length}
 use Rattle.network.specs.Calls.{setWords, patternSetsOf}
 use Rattle.network.proofs.Valid.{state-e}
-use Rattle.engine.proofs.Judged.{filling-invalid, filling-short, filling-done}
+use Rattle.engine.proofs.Laws.{filling-invalid, filling-short, filling-done}
 use borrow.Author.Needs.{needs}
 use Rattle.engine.proofs.pattern_sets.Statement.{statement}
 use Rattle.engine.proofs.pattern_sets.Tie as tie

@@ -2,7 +2,8 @@
 use mathlib.Core.Path.{sym, _∙_}
 use mathlib.Core.List.{[]}
 use native.Mathlib.Omega.{arith}
-use Rattle.engine.proofs.Judged.{named, tables-refused, tables-done}
+use Rattle.answers.proofs.Named.{named}
+use Rattle.engine.proofs.Laws.{tables-refused, tables-done}
 use borrow.Author.Needs.{needs}
 use Rattle.engine.proofs.tables.Statement.{statement}
 use Rattle.engine.proofs.tables.Tie as tie

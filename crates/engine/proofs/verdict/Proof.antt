@@ -6,7 +6,7 @@ use Rattle.network.specs.Flat.{loadedNet, currentNet}
 use Rattle.network.specs.State.{stateTest}
 use Rattle.network.specs.Calls.{gateTest, tableTest, harmTest, verdictOf}
 use Rattle.network.proofs.Valid.{state-e}
-use Rattle.engine.proofs.Judged.{alone, stopped}
+use Rattle.network.proofs.TestLaws.{alone, stopped}
 use borrow.Author.Needs.{needs}
 use Rattle.engine.proofs.verdict.Statement.{statement}
 use Rattle.engine.proofs.verdict.Tie as tie
@@ -28,15 +28,15 @@ returns c =
 enum-told-2 : tie.Need-enum-told-2
 enum-told-2 c = search needs
 
-verdict-in-requires : tie.Need-verdict-in-requires
-verdict-in-requires c κs =
+verdict-requires : tie.Need-verdict-requires
+verdict-requires c κs =
     let t = c .before .before in
     state-e (t .before .args .s) (sym (t .state-test .ensures) ∙ c .enum-told2 .given .1)
 
 returns-2 : tie.Need-returns-2
-returns-2 c = c .verdict-in .ensures
+returns-2 c = c .verdict .ensures
 
 pub verdict-spec : {M : Type 1} → statement M
 verdict-spec =
     tie.close
-    (tie.spec state-test-requires enum-told returns enum-told-2 verdict-in-requires returns-2)
+    (tie.spec state-test-requires enum-told returns enum-told-2 verdict-requires returns-2)

@@ -7,7 +7,7 @@ use Rattle.network.specs.declared.WriteAnswer.the-variants.{Written}
 use Rattle.network.specs.Write.{bytesOf}
 use Rattle.network.specs.Calls.{writeOf}
 use Rattle.network.proofs.Valid.{state-e}
-use Rattle.engine.proofs.Judged.{state-refused, filling-invalid, filling-short, filling-done}
+use Rattle.engine.proofs.Laws.{state-refused, filling-invalid, filling-short, filling-done}
 use borrow.Author.Needs.{needs}
 use Rattle.engine.proofs.write.Statement.{statement}
 use Rattle.engine.proofs.write.Tie as tie

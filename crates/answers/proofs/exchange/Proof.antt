@@ -1,4 +1,4 @@
--- `engine::answer_in` meets its contract. Assumes nothing.
+-- `answers::exchange` meets its contract. Assumes nothing.
 use mathlib.Core.Path.{sym, _∙_}
 use mathlib.Core.List.{[], _∷_}
 use native.Mathlib.Omega.{arith}
@@ -6,13 +6,14 @@ use Rattle.network.specs.Flat.{loadedNet}
 use Rattle.network.specs.Calls.{gateTest, tableTest, closedTest, heldClosed, exchangeAnswer}
 use Rattle.network.specs.State.{stateTest}
 use Rattle.network.specs.Net.{Replacement}
-use Rattle.engine.proofs.Judged.{alone, stopped, went-on, named, closed-is}
+use Rattle.network.proofs.TestLaws.{alone, stopped, went-on}
+use Rattle.answers.proofs.Named.{named, closed-is}
 use borrow.Author.Needs.{needs}
-use Rattle.engine.proofs.answer_in.Statement.{statement}
-use Rattle.engine.proofs.answer_in.Tie as tie
+use Rattle.answers.proofs.exchange.Statement.{statement}
+use Rattle.answers.proofs.exchange.Tie as tie
 
-table-in-requires : tie.Need-table-in-requires
-table-in-requires c κs = search needs
+replacement-test-requires : tie.Need-replacement-test-requires
+replacement-test-requires c κs = search needs
 
 enum-told : tie.Need-enum-told
 enum-told c = search needs
@@ -23,7 +24,7 @@ returns c =
     let t = c .before .before in
     let s = t .before .args .t1 in
     let r : Replacement = record { signal = t .before .args .gate; table = t .before .args .table } in
-    stopped (stateTest s ∷ gateTest (loadedNet s) (r .signal) ∷ tableTest (loadedNet s) r ∷ []) (closedTest (loadedNet s) (heldClosed s (r .signal)) r ∷ []) (t .table-in .ensures) (c .enum-told .given .1)
+    stopped (stateTest s ∷ gateTest (loadedNet s) (r .signal) ∷ tableTest (loadedNet s) r ∷ []) (closedTest (loadedNet s) (heldClosed s (r .signal)) r ∷ []) (t .replacement-test .ensures) (c .enum-told .given .1)
 
 enum-told-2 : tie.Need-enum-told-2
 enum-told-2 c = search needs
@@ -36,7 +37,7 @@ sub-g c =
     let k = c in
     let t = k .before .before in
     let r : Replacement = record { signal = t .before .args .gate; table = t .before .args .table } in
-    let v = named (t .before .args .t1) (r .signal) (tableTest (loadedNet (t .before .args .t1)) r ∷ []) (sym (t .table-in .ensures) ∙ k .enum-told2 .given .1) in
+    let v = named (t .before .args .t1) (r .signal) (tableTest (loadedNet (t .before .args .t1)) r ∷ []) (sym (t .replacement-test .ensures) ∙ k .enum-told2 .given .1) in
     omega (arith, v .low, v .high, v .most, v .few)
 
 element-copy-out-k : tie.Need-element-copy-out-k
@@ -44,7 +45,7 @@ element-copy-out-k c =
     let k = c in
     let t = k .before .before in
     let r : Replacement = record { signal = t .before .args .gate; table = t .before .args .table } in
-    let v = named (t .before .args .t1) (r .signal) (tableTest (loadedNet (t .before .args .t1)) r ∷ []) (sym (t .table-in .ensures) ∙ k .enum-told2 .given .1) in
+    let v = named (t .before .args .t1) (r .signal) (tableTest (loadedNet (t .before .args .t1)) r ∷ []) (sym (t .replacement-test .ensures) ∙ k .enum-told2 .given .1) in
     omega (arith, v .low, v .high, v .most, v .few)
 
 mul-loaded : tie.Need-mul-loaded
@@ -52,7 +53,7 @@ mul-loaded c =
     let k = c .before in
     let t = k .before .before in
     let r : Replacement = record { signal = t .before .args .gate; table = t .before .args .table } in
-    let v = named (t .before .args .t1) (r .signal) (tableTest (loadedNet (t .before .args .t1)) r ∷ []) (sym (t .table-in .ensures) ∙ k .enum-told2 .given .1) in
+    let v = named (t .before .args .t1) (r .signal) (tableTest (loadedNet (t .before .args .t1)) r ∷ []) (sym (t .replacement-test .ensures) ∙ k .enum-told2 .given .1) in
     omega (arith, v .low, v .high, v .most, v .few)
 
 element-copy-out-loaded : tie.Need-element-copy-out-loaded
@@ -60,7 +61,7 @@ element-copy-out-loaded c =
     let k = c .before in
     let t = k .before .before in
     let r : Replacement = record { signal = t .before .args .gate; table = t .before .args .table } in
-    let v = named (t .before .args .t1) (r .signal) (tableTest (loadedNet (t .before .args .t1)) r ∷ []) (sym (t .table-in .ensures) ∙ k .enum-told2 .given .1) in
+    let v = named (t .before .args .t1) (r .signal) (tableTest (loadedNet (t .before .args .t1)) r ∷ []) (sym (t .replacement-test .ensures) ∙ k .enum-told2 .given .1) in
     omega (arith, v .low, v .high, v .most, v .few)
 
 mul-opens : tie.Need-mul-opens
@@ -68,7 +69,7 @@ mul-opens c =
     let k = c .before .before in
     let t = k .before .before in
     let r : Replacement = record { signal = t .before .args .gate; table = t .before .args .table } in
-    let v = named (t .before .args .t1) (r .signal) (tableTest (loadedNet (t .before .args .t1)) r ∷ []) (sym (t .table-in .ensures) ∙ k .enum-told2 .given .1) in
+    let v = named (t .before .args .t1) (r .signal) (tableTest (loadedNet (t .before .args .t1)) r ∷ []) (sym (t .replacement-test .ensures) ∙ k .enum-told2 .given .1) in
     omega (arith, v .low, v .high, v .most, v .few)
 
 element-copy-out-opens : tie.Need-element-copy-out-opens
@@ -76,7 +77,7 @@ element-copy-out-opens c =
     let k = c .before .before in
     let t = k .before .before in
     let r : Replacement = record { signal = t .before .args .gate; table = t .before .args .table } in
-    let v = named (t .before .args .t1) (r .signal) (tableTest (loadedNet (t .before .args .t1)) r ∷ []) (sym (t .table-in .ensures) ∙ k .enum-told2 .given .1) in
+    let v = named (t .before .args .t1) (r .signal) (tableTest (loadedNet (t .before .args .t1)) r ∷ []) (sym (t .replacement-test .ensures) ∙ k .enum-told2 .given .1) in
     omega (arith, v .low, v .high, v .most, v .few)
 
 first-closed-requires : tie.Need-first-closed-requires
@@ -84,7 +85,7 @@ first-closed-requires c κs =
     let k = c .before .before .before in
     let t = k .before .before in
     let r : Replacement = record { signal = t .before .args .gate; table = t .before .args .table } in
-    let v = named (t .before .args .t1) (r .signal) (tableTest (loadedNet (t .before .args .t1)) r ∷ []) (sym (t .table-in .ensures) ∙ k .enum-told2 .given .1) in
+    let v = named (t .before .args .t1) (r .signal) (tableTest (loadedNet (t .before .args .t1)) r ∷ []) (sym (t .replacement-test .ensures) ∙ k .enum-told2 .given .1) in
     omega (arith, v .low, v .high, v .most, v .few)
 
 returns-2 : tie.Need-returns-2
@@ -94,15 +95,15 @@ returns-2 c =
     let t = k .before .before in
     let s = t .before .args .t1 in
     let r : Replacement = record { signal = t .before .args .gate; table = t .before .args .table } in
-    let v = named s (r .signal) (tableTest (loadedNet s) r ∷ []) (sym (t .table-in .ensures) ∙ k .enum-told2 .given .1) in
+    let v = named s (r .signal) (tableTest (loadedNet s) r ∷ []) (sym (t .replacement-test .ensures) ∙ k .enum-told2 .given .1) in
     c .first-closed .ensures ∙ closed-is s r (v .low) (v .high) ∙ alone (closedTest (loadedNet s) (heldClosed s (r .signal)) r)
-    ∙ went-on (stateTest s ∷ gateTest (loadedNet s) (r .signal) ∷ tableTest (loadedNet s) r ∷ []) (closedTest (loadedNet s) (heldClosed s (r .signal)) r ∷ []) (t .table-in .ensures) (k .enum-told2 .given .1)
+    ∙ went-on (stateTest s ∷ gateTest (loadedNet s) (r .signal) ∷ tableTest (loadedNet s) r ∷ []) (closedTest (loadedNet s) (heldClosed s (r .signal)) r ∷ []) (t .replacement-test .ensures) (k .enum-told2 .given .1)
 
-pub answer-in-spec : {M : Type 1} → statement M
-answer-in-spec =
+pub exchange-spec : {M : Type 1} → statement M
+exchange-spec =
     tie.close
     (tie.spec
-    table-in-requires
+    replacement-test-requires
     enum-told
     returns
     enum-told-2

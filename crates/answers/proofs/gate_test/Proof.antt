@@ -1,11 +1,11 @@
--- `engine::gate_in` meets its contract. Assumes nothing.
+-- `answers::gate_test` meets its contract. Assumes nothing.
 use mathlib.Core.Path.{_∙_}
 use Rattle.network.specs.Flat.{loadedNet}
 use Rattle.network.specs.Calls.{gateTest}
-use Rattle.engine.proofs.Judged.{in-valid, gate-low, gate-high, gate-fine}
+use Rattle.answers.proofs.Named.{in-valid, gate-low, gate-high, gate-fine}
 use borrow.Author.Needs.{needs}
-use Rattle.engine.proofs.gate_in.Statement.{statement}
-use Rattle.engine.proofs.gate_in.Tie as tie
+use Rattle.answers.proofs.gate_test.Statement.{statement}
+use Rattle.answers.proofs.gate_test.Tie as tie
 
 cast-n : tie.Need-cast-n
 cast-n c = search needs
@@ -37,5 +37,5 @@ returns-3 c =
     let g = t .args .gate in
     gate-fine s g (c .before .if1 .left) (c .if2 .left) ∙ in-valid s (t .pre) (gateTest (loadedNet s) g)
 
-pub gate-in-spec : {M : Type 1} → statement M
-gate-in-spec = tie.close (tie.spec cast-n cast-m returns add-if2 returns-2 returns-3)
+pub gate-test-spec : {M : Type 1} → statement M
+gate-test-spec = tie.close (tie.spec cast-n cast-m returns add-if2 returns-2 returns-3)

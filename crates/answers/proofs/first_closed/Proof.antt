@@ -1,4 +1,4 @@
--- `engine::first_closed` meets its contract. Assumes nothing.
+-- `answers::first_closed` meets its contract. Assumes nothing.
 use mathlib.Core.Path.{ap, _∙_}
 use mathlib.Core.Bool.{not, _&&_}
 use Prim.Native.Nat.{ℕ, _^_}
@@ -6,10 +6,10 @@ use borrow.Author.Needs.{needs}
 use Rattle.bits.specs.Range.{smallest}
 use Rattle.bits.specs.Bit.{bit, differs}
 use Rattle.network.specs.Calls.{entryFound}
-use Rattle.engine.proofs.Laws.{none-closed, lowest-closed}
+use Rattle.answers.proofs.Laws.{none-closed, lowest-closed}
 use native.Mathlib.Omega.{arith}
-use Rattle.engine.proofs.first_closed.Statement.{statement}
-use Rattle.engine.proofs.first_closed.Tie as tie
+use Rattle.answers.proofs.first_closed.Statement.{statement}
+use Rattle.answers.proofs.first_closed.Tie as tie
 
 place-requires : tie.Need-place-requires
 place-requires c κs = search needs
