@@ -29,6 +29,12 @@ pub beq-i : (a b : Bool) → a ≡ b → Bool·beq a b ≡ true
 beq-i true b e = rw (← e)
 beq-i false b e = rw (← e)
 
+pub beq-comm : (a b : Bool) → Bool·beq a b ≡ Bool·beq b a
+beq-comm true true = refl
+beq-comm true false = refl
+beq-comm false true = refl
+beq-comm false false = refl
+
 pub beq-true : (a : Bool) → a ≡ Bool·beq a true
 beq-true true = refl
 beq-true false = refl

@@ -19,7 +19,7 @@ use Rattle.network.specs.Compatible.{agree, edgeSet, atOutputs, compatibleFrom,
 use Rattle.network.specs.Flat.{gateAt, gatesOf, netOf}
 use Rattle.network.specs.Valid.{NetOk}
 use Rattle.network.proofs.Laws.{arity-at, entry-at, entry-ext, length-gates}
-use Rattle.network.proofs.Earlier.{gates-at}
+use Rattle.network.proofs.Earlier.{gates-at, gate-is}
 use Rattle.simulate.specs.Simulated.{Simulated, wordsAt}
 use Rattle.entries.proofs.By.{by-rest}
 use Rattle.compatible.specs.Words.{outputsLeave, CompatibleRows, shuts, shutsAt, shutBy}
@@ -52,10 +52,6 @@ zero-step hs i b s q h ih = go (ℕ-discrete s i) (decLt s i)
 module _ (ks fs ts ex outs : List ℕ) (n m p : ℕ) where
   abbrev pub N : Net
   N = netOf ks fs ts n m ex outs p
-
-  pub gate-is : (g : ℕ) → g < m → gate N (n + g) ≡ gateAt ks fs ts g
-  unfolding netOf
-  gate-is g h = let e : n + g - n ≡ g = omega arith in ap (λ (i : ℕ). getD (gatesOf ks fs ts m) i noGate) e ∙ gates-at ks fs ts m g h
 
   inputs-is : n ≡ N .inputs
   unfolding netOf
@@ -122,7 +118,7 @@ module _ (ks fs ts ex outs : List ℕ) (n m p : ℕ) where
         delivers-is t =
             ap₂ (λ (f e : ℕ). agree (getD ks g 0) f e t) moved-is (sym (entry-is g hg))
             ∙ ap (λ (k : ℕ). agree k (number (map (λ f. compatible N f x) (gateAt ks fs ts g .fanins))) (entry (values N x) (gateAt ks fs ts g)) t) (sym (arity-at ks fs ts g))
-            ∙ ap (λ (G : Gate). agree (arity G) (number (map (λ f. compatible N f x) (G .fanins))) (entry (values N x) G) t) (sym (gate-is g hg))
+            ∙ ap (λ (G : Gate). agree (arity G) (number (map (λ f. compatible N f x) (G .fanins))) (entry (values N x) G) t) (sym (gate-is ks fs ts ex outs n m p g hg))
 
         pub shuts-is : (t : ℕ) → shuts ks fs ws hs n g t b ≡ comes g t x
         unfolding movedAt
@@ -144,4 +140,4 @@ module _ (ks fs ts ex outs : List ℕ) (n m p : ℕ) where
         let q : w * 64 + b ≡ y = omega arith in
         shuts-is (wordsAt rows w) w (found .values w hw) b (omega arith) (wordsAt hs w) (found .sets w hw b (omega arith)) g hg t
         ∙ ap (comes g t) q)))
-        ∙ ap₂ (λ (k j : ℕ). tableOf (2 ^ k) (λ t. not (any (2 ^ j) (comes g t)))) (sym (ap arity (gate-is g hg) ∙ arity-at ks fs ts g)) inputs-is
+        ∙ ap₂ (λ (k j : ℕ). tableOf (2 ^ k) (λ t. not (any (2 ^ j) (comes g t)))) (sym (ap arity (gate-is ks fs ts ex outs n m p g hg) ∙ arity-at ks fs ts g)) inputs-is

@@ -16,8 +16,8 @@ use Rattle.network.specs.Net.{Gate, arity}
 use Rattle.network.specs.DontCares.{sdc}
 use Rattle.network.specs.Flat.{netOf}
 use Rattle.network.proofs.Laws.{arity-at, table-at}
+use Rattle.network.proofs.Earlier.{gate-is}
 use Rattle.entries.proofs.Halves.{table-append, doubled}
-use Rattle.dontcares.proofs.TableLaws.{gate-is}
 
 module _ (k table : ℕ) (few : k ≤ 4) (fits : table < 2 ^ 2 ^ k) where
   -- entry t + 2^k·o is set when o differs from the table's entry t

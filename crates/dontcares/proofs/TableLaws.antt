@@ -2,25 +2,27 @@
 use mathlib.Core.Path.{_≡_, refl, sym, ap, ap₂, _∙_}
 use mathlib.Core.Bool.{Bool, true, false, not, _&&_, _||_}
 use mathlib.Core.List.{List}
-use Prim.Native.Nat.{ℕ, zero, suc, _+_, _-_, _*_, _^_, _<_}
+use Prim.Native.Nat.{ℕ, zero, suc, _+_, _-_, _*_, _^_, _≤_, _<_}
+use native.Mathlib.Decide.{ℕ-discrete}
 use native.Mathlib.Numerals.{add-one}
 use native.Mathlib.Omega.{arith}
 use lib.Bits.{bitOr}
 use lib.Dec.{eqb}
 use lib.ListN.{length, getD, set, replicate}
-use lib.Seq.{getD-take, getD-set-other}
-use Rattle.bits.specs.Range.{_⇒_, places, every, any}
+use lib.Seq.{getD-take, getD-set-same, getD-set-other}
+use Rattle.bits.specs.Range.{_⇒_, every, any}
 use Rattle.bits.specs.Bit.{bit, tableOf, column, entryAt}
-use Rattle.bits.proofs.Ranges.{and-assoc, and-true, any-ext, every-ext, places-at, table-lt, table-ext, filled}
+use Rattle.bits.proofs.Ranges.{and-assoc, and-true, any-ext, every-ext, table-lt, table-ext}
 use Rattle.bits.proofs.Cuts.{every-not, table-or, table-none}
-use Rattle.network.specs.Net.{Gate, Net, arity, gate, noGate, entry, values, entryOf, occurs, excluded}
+use Rattle.network.specs.Net.{Gate, Net, arity, gate, entry, values, entryOf, occurs, excluded}
 use Rattle.network.specs.DontCares.{odc, cdc, full}
-use Rattle.network.specs.Flat.{gateAt, gatesOf, netOf}
+use Rattle.network.specs.Flat.{gateAt, netOf}
 use Rattle.network.specs.Valid.{NetOk}
 use Rattle.network.proofs.Laws.{arity-at, entry-words, entry-ext}
+use Rattle.network.proofs.Earlier.{gate-is}
 use Rattle.entries.proofs.By.{by-rest}
 use Rattle.simulate.specs.Simulated.{wordsAt, Rows}
-use Rattle.dontcares.specs.Framed.{Framed, OdcAt, Tabled}
+use Rattle.dontcares.specs.Framed.{Framed, OdcAt, Tabled, TabledFrom}
 use Rattle.dontcares.proofs.Words.{set-bit}
 
 -- ## Entries, word after word
@@ -60,14 +62,8 @@ module _ (ks fs ts ex outs : List ℕ) (n m p g : ℕ) (hg : g < m) where
   abbrev N : Net
   N = netOf ks fs ts n m ex outs p
 
-  pub gate-is : gate N (n + g) ≡ gateAt ks fs ts g
-  unfolding netOf gatesOf
-  gate-is =
-      let e : n + g - n ≡ g = omega arith in
-      ap (λ (i : ℕ). getD (places m (gateAt ks fs ts)) i noGate) e ∙ places-at noGate m (gateAt ks fs ts) g hg
-
   pub entries-is : 2 ^ arity (gate N (n + g)) ≡ 2 ^ getD ks g 0
-  entries-is = ap (λ (G : Gate). 2 ^ arity G) gate-is ∙ ap (λ (k : ℕ). 2 ^ k) (arity-at ks fs ts g)
+  entries-is = ap (λ (G : Gate). 2 ^ arity G) (gate-is ks fs ts ex outs n m p g hg) ∙ ap (λ (k : ℕ). 2 ^ k) (arity-at ks fs ts g)
 
   module _ (rows : List ℕ) (count live : ℕ) (ok : NetOk ks fs n m) (sim : Rows ks fs ts rows n m count) (framed : Framed n count live) where
     entry-now : (w b : ℕ) → w < count → b < 64 → entry (column (wordsAt rows w) b) (gateAt ks fs ts g) ≡ entryOf N (n + g) (w * 64 + b)
@@ -76,7 +72,7 @@ module _ (ks fs ts ex outs : List ℕ) (n m p g : ℕ) (hg : g < m) where
         entry-ext ks fs ts (column (wordsAt rows w) b) (values N (w * 64 + b)) g
         (λ r l. sym (getD-take (n + m) (column (wordsAt rows w) b) (getD fs (6 * g + r) 0) false (omega (arith, ok .gate g hg .early r l)))
         ∙ ap (λ (q : List Bool). getD q (getD fs (6 * g + r) 0) false) (sim w hw .each b hb))
-        ∙ ap (entry (values N (w * 64 + b))) (sym gate-is)
+        ∙ ap (entry (values N (w * 64 + b))) (sym (gate-is ks fs ts ex outs n m p g hg))
 
     -- those that no pattern delivers at which the test holds
     left-out : (keep : List ℕ) (test : ℕ → Bool) (x : ℕ)
@@ -134,23 +130,31 @@ module _ (ks fs ts ex outs : List ℕ) (n m p g : ℕ) (hg : g < m) where
         inside true e q = refl
         inside false e q = refl
 
--- ## The tables of all gates
+-- ## The tables of the gates from a on
 
-pub no-tables : (N : Net) (n : ℕ) → Tabled N (replicate {A = ℕ} 40 0) (replicate {A = ℕ} 40 0) n 0
-no-tables N n = record { cdc-at = λ g h. absurd (omega arith); full-at = λ g h. absurd (omega arith); past = λ g h. (zeros 40 g, zeros 40 g) }
+pub no-tables : (N : Net) (n a : ℕ) → TabledFrom N (replicate {A = ℕ} 40 0) (replicate {A = ℕ} 40 0) n a a
+no-tables N n a = record { at = λ g l h. absurd (omega arith); past = λ g h. (zeros 40 g, zeros 40 g) }
   where
     zeros : (k g : ℕ) → getD (replicate {A = ℕ} k 0) g 0 ≡ 0
     zeros zero g = refl
     zeros (suc k) zero = refl
     zeros (suc k) (suc g) = zeros k g
 
-pub tables-more : (N : Net) (cdcs fulls : List ℕ) (n g x y : ℕ) → length cdcs ≡ 40 → length fulls ≡ 40 → g < 40 → Tabled N cdcs fulls n g
-    → x ≡ cdc N (n + g) → y ≡ full N (n + g) → Tabled N (set cdcs g x) (set fulls g y) n (g + 1)
-tables-more N cdcs fulls n g x y lc lf h t ex ey = record {
-  cdc-at = filled cdcs (λ g. cdc N (n + g)) g x (omega arith) (t .cdc-at) ex;
-  full-at = filled fulls (λ g. full N (n + g)) g y (omega arith) (t .full-at) ey;
+pub tables-more : (N : Net) (cdcs fulls : List ℕ) (n a g x y : ℕ) → length cdcs ≡ 40 → length fulls ≡ 40 → g < 40 → TabledFrom N cdcs fulls n a g
+    → x ≡ cdc N (n + g) → y ≡ full N (n + g) → TabledFrom N (set cdcs g x) (set fulls g y) n a (g + 1)
+tables-more N cdcs fulls n a g x y lc lf h t ex ey = record {
+  at = λ q l u. here q l u (ℕ-discrete q g);
   past = λ q l. (
     getD-set-other cdcs g q x 0 (λ e. absurd (omega arith)) ∙ t .past q (omega arith) .0,
     getD-set-other fulls g q y 0 (λ e. absurd (omega arith)) ∙ t .past q (omega arith) .1,
   );
 }
+  where
+    here : (q : ℕ) → a ≤ q → q < g + 1 → Dec (q ≡ g) → (getD (set cdcs g x) q 0 ≡ cdc N (n + q)) × (getD (set fulls g y) q 0 ≡ full N (n + q))
+    here q l u (yes e) = rw e (getD-set-same cdcs g x 0 (omega arith) ∙ ex, getD-set-same fulls g y 0 (omega arith) ∙ ey)
+    here q l u (no d) =
+        let old = t .at q l (omega arith) in
+        (getD-set-other cdcs g q x 0 (λ e. d (omega arith)) ∙ old .0, getD-set-other fulls g q y 0 (λ e. d (omega arith)) ∙ old .1)
+
+pub from-first : {N : Net} {cdcs fulls : List ℕ} {n m : ℕ} → TabledFrom N cdcs fulls n 0 m → Tabled N cdcs fulls n m
+from-first t = record { cdc-at = λ g h. t .at g (omega arith) h .0; full-at = λ g h. t .at g (omega arith) h .1; past = t .past }

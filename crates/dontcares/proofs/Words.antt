@@ -2,7 +2,7 @@
 use mathlib.Core.Path.{_≡_, sym, ap, ap₂, _∙_, subst}
 use mathlib.Core.Bool.{Bool, not, _&&_}
 use mathlib.Core.List.{List}
-use Prim.Native.Nat.{ℕ, _+_, _*_, _^_, _<_}
+use Prim.Native.Nat.{ℕ, _+_, _*_, _^_, _≤_, _<_}
 use native.Mathlib.Decide.{ℕ-discrete}
 use native.Mathlib.Omega.{arith}
 use lib.Dec.{ltb}
@@ -49,16 +49,17 @@ module _ {n count live : ℕ} (f : Framed n count live) where
   module _ (N : Net) (old new seen : List ℕ) (g : ℕ)
       (stored : (w : ℕ) → w < count → getD new (16 * g + w) 0 ≡ tableOf 64 (λ b. bit live b && not (bit (getD seen w 0) b)))
       (sees : (w b : ℕ) → w < count → b < 64 → bit (getD seen w 0) b ≡ not (odc N (n + g) (w * 64 + b))) where
-    pub odc-own : OdcAt N new n g count
+    odc-own : OdcAt N new n g count
     unfolding OdcAt
     odc-own w hw = set-word (odc N (n + g)) w (getD new (16 * g + w) 0) (getD seen w 0) hw (λ b hb. sees w b hw hb) (stored w hw)
 
-    pub odc-more : ((q : ℕ) → q < 16 * g → getD new q 0 ≡ getD old q 0) → ((h : ℕ) → h < g → OdcAt N old n h count) → (h : ℕ) → h < g + 1 → OdcAt N new n h count
-    odc-more same before h l = go (ℕ-discrete h g)
+    pub odc-more : (a : ℕ) → ((q : ℕ) → q < 16 * g → getD new q 0 ≡ getD old q 0) → ((h : ℕ) → a ≤ h → h < g → OdcAt N old n h count)
+        → (h : ℕ) → a ≤ h → h < g + 1 → OdcAt N new n h count
+    odc-more a same before h f l = go (ℕ-discrete h g)
       where
         go : Dec (h ≡ g) → OdcAt N new n h count
         go (yes e) = subst (λ (i : ℕ). OdcAt N new n i count) (sym e) odc-own
-        go (no d) = still N old new g same h (omega arith) (before h (omega arith))
+        go (no d) = still N old new g same h (omega arith) (before h f (omega arith))
 
 -- ## A stretch of 16 words in an array
 

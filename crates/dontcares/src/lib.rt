@@ -4,7 +4,7 @@ ghost use mathlib.Core.Bool.{_&&_, _||_, not};
 ghost use mathlib.Core.List.{List};
 ghost use Prim.Native.Nat.{ℕ, _+_, _*_, _%_, _^_, _<_, _≤_};
 ghost use lib.Dec.{eqb};
-ghost use lib.ListN.{getD};
+ghost use lib.ListN.{length, getD};
 ghost use Rattle.bits.specs.Range.{any};
 ghost use Rattle.bits.specs.Bit.{bit, differs, tableOf, column};
 ghost use Rattle.bits.specs.Cut.{wordCount};
@@ -15,7 +15,7 @@ ghost use Rattle.network.specs.Flat.{gateAt, netOf, currentNet, wordOf};
 ghost use Rattle.network.specs.State.{stateFault};
 ghost use Rattle.network.specs.Valid.{GateOk, NetOk};
 ghost use Rattle.simulate.specs.Simulated.{wordsAt, Rows};
-ghost use Rattle.dontcares.specs.Framed.{Framed, OdcAt, Tabled};
+ghost use Rattle.dontcares.specs.Framed.{Framed, OdcAt, Tabled, TabledFrom};
 use network::Session;
 
 mod observability;
@@ -102,8 +102,10 @@ pub struct AllTables {
     pub full: [u64; 40],
 }
 
+// The tables of each gate from a to e, and zero elsewhere.
 fn tables_of(
-    m: usize,
+    a: usize,
+    e: usize,
     arity: &[u8; 40],
     fanins: &[u8; 240],
     excluded: &[u64; 16],
@@ -112,14 +114,14 @@ fn tables_of(
     count: usize,
     live: u64,
 ) -> AllTables
-    requires { ⌜ (m ≤ 40) × (count ≤ 16) ⌝ }
-    requires { ⌜ ((g : ℕ) → g < m → GateOk (now arity) (now fanins) g 50) ⌝ }
-    ensures { λ r. ⌜ ((ts outs : List ℕ) (n p : ℕ) → NetOk (now (arity .entry)) (now (fanins .entry)) n m → Rows (now (arity .entry)) (now (fanins .entry)) ts (now (rows .entry)) n m count → Framed n count live → ((g : ℕ) → g < m → OdcAt (netOf (now (arity .entry)) (now (fanins .entry)) ts n m (now (excluded .entry)) outs p) (now (odc .entry)) n g count) → Tabled (netOf (now (arity .entry)) (now (fanins .entry)) ts n m (now (excluded .entry)) outs p) (r .cdc) (r .full) n m) ⌝ }
+    requires { ⌜ (a ≤ e) × (e ≤ 40) × (count ≤ 16) ⌝ }
+    requires { ⌜ ((g : ℕ) → g < e → GateOk (now arity) (now fanins) g 50) ⌝ }
+    ensures { λ r. ⌜ ((ts outs : List ℕ) (n m p : ℕ) → e ≤ m → NetOk (now (arity .entry)) (now (fanins .entry)) n m → Rows (now (arity .entry)) (now (fanins .entry)) ts (now (rows .entry)) n m count → Framed n count live → ((g : ℕ) → a ≤ g → g < e → OdcAt (netOf (now (arity .entry)) (now (fanins .entry)) ts n m (now (excluded .entry)) outs p) (now (odc .entry)) n g count) → TabledFrom (netOf (now (arity .entry)) (now (fanins .entry)) ts n m (now (excluded .entry)) outs p) (r .cdc) (r .full) n a e) ⌝ }
 {
     let mut cdc = [0u64; 40];
     let mut full = [0u64; 40];
-    let mut g = 0;
-    while g < m {
+    let mut g = a;
+    while g < e {
         let t = tables_at(arity, fanins, excluded, rows, odc, count, live, g);
         cdc[g] = t.cdc;
         full[g] = t.full;
@@ -131,10 +133,11 @@ fn tables_of(
     }
 }
 
-// Rule 3 for all gates: the words of gate g's ODC stand at place 16 * g and on; spare bits are zero.
-pub fn odc_sets(s: Session) -> [u64; 640]
+// The words of the ODC of each gate from a to e, laid into odc, and the tables of each from a to t.
+fn sets_between(s: Session, a: usize, t: usize, e: usize, odc: &mut [u64; 640]) -> AllTables
     requires { ⌜ stateFault s ≡ Done ⌝ }
-    ensures { λ l. ⌜ ((g w : ℕ) → g < s .m → w < wordCount (s .n) → getD l (16 * g + w) 0 ≡ wordOf (s .n) (odc (currentNet s) (s .n + g)) w) ⌝ }
+    requires { ⌜ (a ≤ t) × (t ≤ e) × (e ≤ s .m) × (length (now odc) ≡ 640) ⌝ }
+    ensures { λ r. ⌜ ((g : ℕ) → a ≤ g → g < e → OdcAt (currentNet s) (now (odc .exit)) (s .n) g (wordCount (s .n))) × TabledFrom (currentNet s) (r .cdc) (r .full) (s .n) a t ⌝ }
 {
     let n = network::place(s.n);
     let m = network::place(s.m);
@@ -143,8 +146,10 @@ pub fn odc_sets(s: Session) -> [u64; 640]
     let fanins = s.fanins;
     let tables = s.current;
     let outputs = s.outputs;
+    let excluded = s.excluded;
     let f = observability::extent(n);
     let count = f.count;
+    let live = f.live;
     let rows = simulate::rows(n, m, &arity, &fanins, &tables, count);
     observability::odc_words(
         n,
@@ -156,54 +161,23 @@ pub fn odc_sets(s: Session) -> [u64; 640]
         &outputs,
         &rows,
         count,
-        f.live,
-    )
-}
-
-// The ODC, the CDC and the full table of each gate.
-pub struct Sets {
-    pub odc: [u64; 640],
-    pub cdc: [u64; 40],
-    pub full: [u64; 40],
-}
-
-// Rules 2 to 4 for all gates.
-pub fn all_sets(s: Session) -> Sets
-    requires { ⌜ stateFault s ≡ Done ⌝ }
-    ensures { λ r. ⌜ ((g w : ℕ) → g < s .m → w < wordCount (s .n) → getD (r .odc) (16 * g + w) 0 ≡ wordOf (s .n) (odc (currentNet s) (s .n + g)) w) × Tabled (currentNet s) (r .cdc) (r .full) (s .n) (s .m) ⌝ }
-{
-    let n = network::place(s.n);
-    let m = network::place(s.m);
-    let p = network::place(s.p);
-    let arity = s.arity;
-    let fanins = s.fanins;
-    let tables = s.current;
-    let outputs = s.outputs;
-    let excluded = s.excluded;
-    let f = observability::extent(n);
-    let count = f.count;
-    let live = f.live;
-    let rows = simulate::rows(n, m, &arity, &fanins, &tables, count);
-    let odc = observability::odc_words(
-        n,
-        m,
-        &arity,
-        &fanins,
-        &tables,
-        p,
-        &outputs,
-        &rows,
-        count,
         live,
+        a,
+        e,
+        odc,
     );
-    let t = tables_of(m, &arity, &fanins, &excluded, &rows, &odc, count, live);
-    let cdc = t.cdc;
-    let full = t.full;
-    Sets {
-        odc: odc,
-        cdc: cdc,
-        full: full,
-    }
+    tables_of(a, t, &arity, &fanins, &excluded, &rows, odc, count, live)
+}
+
+// Rule 3 for all gates: the words of gate g's ODC stand at place 16 * g and on; spare bits are zero.
+pub fn odc_sets(s: Session) -> [u64; 640]
+    requires { ⌜ stateFault s ≡ Done ⌝ }
+    ensures { λ l. ⌜ ((g w : ℕ) → g < s .m → w < wordCount (s .n) → getD l (16 * g + w) 0 ≡ wordOf (s .n) (odc (currentNet s) (s .n + g)) w) ⌝ }
+{
+    let m = network::place(s.m);
+    let mut l = [0u64; 640];
+    sets_between(s, 0, 0, m, &mut l);
+    l
 }
 
 // Rules 2 and 4 for all gates.
@@ -211,13 +185,9 @@ pub fn all_tables(s: Session) -> AllTables
     requires { ⌜ stateFault s ≡ Done ⌝ }
     ensures { λ r. ⌜ Tabled (currentNet s) (r .cdc) (r .full) (s .n) (s .m) ⌝ }
 {
-    let t = all_sets(s);
-    let cdc = t.cdc;
-    let full = t.full;
-    AllTables {
-        cdc: cdc,
-        full: full,
-    }
+    let m = network::place(s.m);
+    let mut l = [0u64; 640];
+    sets_between(s, 0, m, m, &mut l)
 }
 
 // Rules 2 and 4 for gate g.
@@ -226,32 +196,15 @@ pub fn gate_tables(s: Session, g: usize) -> GateTables
     requires { ⌜ g < s .m ⌝ }
     ensures { λ r. ⌜ (r .cdc ≡ cdc (currentNet s) (s .n + g)) × (r .full ≡ full (currentNet s) (s .n + g)) ⌝ }
 {
-    let n = network::place(s.n);
-    let m = network::place(s.m);
-    let p = network::place(s.p);
-    let arity = s.arity;
-    let fanins = s.fanins;
-    let tables = s.current;
-    let outputs = s.outputs;
-    let excluded = s.excluded;
-    let f = observability::extent(n);
-    let count = f.count;
-    let live = f.live;
-    let rows = simulate::rows(n, m, &arity, &fanins, &tables, count);
-    let odc = observability::gate_odc(
-        n,
-        m,
-        &arity,
-        &fanins,
-        &tables,
-        p,
-        &outputs,
-        &rows,
-        count,
-        live,
-        g,
-    );
-    tables_at(&arity, &fanins, &excluded, &rows, &odc, count, live, g)
+    let e = g + 1;
+    let mut l = [0u64; 640];
+    let r = sets_between(s, g, e, e, &mut l);
+    let cdc = r.cdc;
+    let full = r.full;
+    GateTables {
+        cdc: cdc[g],
+        full: full[g],
+    }
 }
 
 // Rule 1 for a table of k fan-ins: its entries, then their complement.

@@ -114,7 +114,7 @@ fn store_odc(odc: &mut [u64; 640], seen: &[u64; 16], live: u64, count: usize, g:
     }
 }
 
-// The words of each gate's ODC.
+// The words of the ODC of each gate from a to e, laid into odc.
 pub fn odc_words(
     n: usize,
     m: usize,
@@ -126,17 +126,19 @@ pub fn odc_words(
     rows: &[u64; 800],
     count: usize,
     live: u64,
-) -> [u64; 640]
+    a: usize,
+    e: usize,
+    odc: &mut [u64; 640],
+)
     requires { ⌜ NetOk (now arity) (now fanins) n m ⌝ }
     requires { ⌜ OutputsOk (now outputs) p (n + m) ⌝ }
     requires { ⌜ (length (now rows) ≡ 800) × Rows (now arity) (now fanins) (now tables) (now rows) n m count ⌝ }
-    requires { ⌜ Framed n count live ⌝ }
-    ensures { λ l. ⌜ ((ex : List ℕ) (g : ℕ) → g < m → OdcAt (netOf (now (arity .entry)) (now (fanins .entry)) (now (tables .entry)) n m ex (now (outputs .entry)) p) l n g count) ⌝ }
+    requires { ⌜ Framed n count live × (e ≤ m) × (length (now odc) ≡ 640) ⌝ }
+    ensures { λ _. ⌜ ((ex : List ℕ) (g : ℕ) → a ≤ g → g < e → OdcAt (netOf (now (arity .entry)) (now (fanins .entry)) (now (tables .entry)) n m ex (now (outputs .entry)) p) (now (odc .exit)) n g count) ⌝ }
 {
     let masks = simulate::fanin_masks(n, m, arity, fanins);
-    let mut l = [0u64; 640];
-    let mut g = 0;
-    while g < m {
+    let mut g = a;
+    while g < e {
         let seen = observed_row(
             n,
             m,
@@ -150,48 +152,7 @@ pub fn odc_words(
             count,
             g,
         );
-        store_odc(&mut l, &seen, live, count, g);
+        store_odc(odc, &seen, live, count, g);
         g += 1;
     }
-    l
-}
-
-// The words of gate g's ODC at their place, and zero elsewhere.
-pub fn gate_odc(
-    n: usize,
-    m: usize,
-    arity: &[u8; 40],
-    fanins: &[u8; 240],
-    tables: &[u64; 40],
-    p: usize,
-    outputs: &[u8; 8],
-    rows: &[u64; 800],
-    count: usize,
-    live: u64,
-    g: usize,
-) -> [u64; 640]
-    requires { ⌜ NetOk (now arity) (now fanins) n m ⌝ }
-    requires { ⌜ OutputsOk (now outputs) p (n + m) ⌝ }
-    requires { ⌜ (length (now rows) ≡ 800) × Rows (now arity) (now fanins) (now tables) (now rows) n m count ⌝ }
-    requires { ⌜ Framed n count live ⌝ }
-    requires { ⌜ g < m ⌝ }
-    ensures { λ l. ⌜ ((ex : List ℕ) → OdcAt (netOf (now (arity .entry)) (now (fanins .entry)) (now (tables .entry)) n m ex (now (outputs .entry)) p) l n g count) ⌝ }
-{
-    let masks = simulate::fanin_masks(n, m, arity, fanins);
-    let seen = observed_row(
-        n,
-        m,
-        arity,
-        fanins,
-        tables,
-        p,
-        outputs,
-        &masks,
-        rows,
-        count,
-        g,
-    );
-    let mut l = [0u64; 640];
-    store_odc(&mut l, &seen, live, count, g);
-    l
 }

@@ -17,6 +17,7 @@ use Rattle.bits.specs.Range.{_⇒_, every}
 use Rattle.bits.specs.Bit.{bit, differs, tableOf}
 use Rattle.bits.proofs.BitLaws.{bit-and, bit-xor, bit-ext, bit-zero, bit-shr}
 use Rattle.bits.proofs.Ranges.{iff, every-e, every-i, lt-cases, table-ext, bit-table}
+use Rattle.bits.proofs.Logic.{beq-comm}
 use Rattle.bits.proofs.MintermLaws.{and-more}
 use Rattle.network.specs.Net.{entry}
 use Rattle.network.specs.Compatible.{agree, constant, turns, freeFanins}
@@ -34,19 +35,13 @@ agreeAt free t u r = bit free r || Bool·beq (bit t r) (bit u r)
 low-of : (x r : ℕ) → bit (x / 2 ^ r) 0 ≡ bit x r
 low-of x r = bit-shr x r 0 ∙ ap (bit x) (add-zero r)
 
-beq-sym : (a b : Bool) → Bool·beq a b ≡ Bool·beq b a
-beq-sym true true = refl
-beq-sym true false = refl
-beq-sym false true = refl
-beq-sym false false = refl
-
 module _ (k free t acc f same ins r : ℕ) (x : Bool) (u : ℕ)
     (so-far : bit acc u ≡ (ltb u (2 ^ k) && every r (agreeAt free t u)))
     (filled : bit f u ≡ bit (free / 2 ^ r) 0) (value : x ≡ bit t r) (like : bit same u ≡ Bool·beq (bit ins u) x) (input : bit ins u ≡ bit (0 * 64 + u) r) where
   pub agree-step : bit (bitAnd acc (bitOr f same)) u ≡ (ltb u (2 ^ k) && every (r + 1) (agreeAt free t u))
   agree-step =
       and-more (agreeAt free t u) (ltb u (2 ^ k)) acc f same r u so-far
-      (ap₂ (λ (a b : Bool). a || b) (filled ∙ low-of free r) (like ∙ ap₂ Bool·beq (input ∙ ap (λ (i : ℕ). bit i r) (zero-add u)) value ∙ beq-sym (bit u r) (bit t r)))
+      (ap₂ (λ (a b : Bool). a || b) (filled ∙ low-of free r) (like ∙ ap₂ Bool·beq (input ∙ ap (λ (i : ℕ). bit i r) (zero-add u)) value ∙ beq-comm (bit u r) (bit t r)))
     where
       zero-add : (u : ℕ) → 0 * 64 + u ≡ u
       zero-add u = omega arith

@@ -16,12 +16,13 @@ use Rattle.network.specs.State.{arityOf}
 use Rattle.network.specs.Valid.{Shaped}
 use Rattle.network.specs.Load.{started, loadDone, wordsFrom, setBytes, isExcluded, withExcluded, excludedTests, excludedRecord, headerTests, headerRecord, readOutputs, readGates, readBody, readOf, opened, loadOf}
 use Rattle.network.specs.Write.{wordBytes, allZero, headerBytes, excludedBytes, gateBytes, gatesBytes, outputsBytes, bytesOf}
+use Rattle.network.proofs.Bytes.{length-words}
 use Rattle.network.proofs.TestLaws.{clear-i, short-i, mark-i, count-e}
 use Rattle.network.proofs.Valid.{Valid, valid-e}
 use Rattle.network.proofs.Reached.{load-back, opened-loaded, opened-current}
 use Rattle.netfile.specs.WayBack.{Returns, WayBack}
 use Rattle.netfile.proofs.Laid.{Laid, layGate, layOutput, lay-gate, lay-output, same-net}
-use Rattle.netfile.proofs.WordsBack.{within, holds, words-back, zeros, length-words, set-bytes-most}
+use Rattle.netfile.proofs.WordsBack.{within, holds, words-back, zeros, set-bytes-most}
 use Rattle.netfile.proofs.GatesBack.{gate-back}
 use Rattle.netfile.proofs.OutputsBack.{output-back}
 

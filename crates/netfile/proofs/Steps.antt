@@ -1,14 +1,13 @@
 -- The steps of the reader's loops, over plain lists. Assumes nothing.
 use mathlib.Core.Path.{_≡_, sym, _∙_}
 use mathlib.Core.List.{List, [], _∷_, _++_, append-assoc, append-nil}
-use Prim.Native.Nat.{ℕ, suc, _+_, _*_, _-_, _^_, _/_, _≤_, _<_}
+use Prim.Native.Nat.{ℕ, suc, _+_, _*_, _-_, _^_, _≤_, _<_}
 use native.Mathlib.Numerals.{add-one}
 use native.Mathlib.Nat.{pow-suc, pow-le-pow-right}
 use native.Mathlib.Omega.{arith}
 use lib.ListN.{length, getD, take, drop, set, length-drop, drop-of-length-le}
 use lib.Seq.{sets, drop-cons, drop-drop, take-all, take-suc-set}
-use borrow.Author.Tests.{lt-ltb, le-ltb}
-use Rattle.network.specs.Load.{littleEndian, wordsFrom, setBytes}
+use Rattle.network.specs.Load.{littleEndian, wordsFrom}
 
 -- what is lent from `at` on
 pub tail-part : (rest : List ℕ) (at : ℕ) → take (length rest - at) (drop at rest) ≡ drop at rest
@@ -64,11 +63,3 @@ pub words-done : (ws bs : List ℕ) (i : ℕ) → 16 ≤ i → length ws ≡ 16 
 words-done ws bs i h l =
     let q : 16 - i ≡ 0 = omega arith in
     rw (q, take-all i ws (omega arith), append-nil)
-
--- ## How many bytes hold 2^n bits
-
-pub set-small : (n : ℕ) → n < 3 → 1 ≡ setBytes n
-set-small n h = rw (lt-ltb n 3 h)
-
-pub set-large : (n r : ℕ) → 3 ≤ n → r ≡ 2 ^ n → r / 8 ≡ setBytes n
-set-large n r h e = rw (e, le-ltb n 3 h)

@@ -16,23 +16,15 @@ use Rattle.network.specs.declared.Answer.the-variants.{Done}
 use Rattle.network.specs.Tests.{widthTest, excludedTest}
 use Rattle.network.specs.Load.{littleEndian, wordsFrom, setBytes}
 use Rattle.network.specs.Write.{bytesIn, wordBytes, allZero}
+use Rattle.network.proofs.Bytes.{length-bytes, take-bytes}
 use Rattle.network.proofs.TestLaws.{each-e, width-e}
 
 -- ## Bytes of a number
-
-pub length-bytes : (c x : ℕ) → length (bytesIn c x) ≡ c
-length-bytes zero x = refl
-length-bytes (suc c) x = ap suc (length-bytes c (x / 256))
 
 pub number-bytes : (c x : ℕ) → x < 256 ^ c → littleEndian (bytesIn c x) ≡ x
 number-bytes zero x h = let e : 0 ≡ x = omega arith in e
 number-bytes (suc c) x h =
     rw (number-bytes c (x / 256) (div-lt-iff-lt-mul (omega arith) .1 (rw pow-suc at h))) (mod-add-div x 256)
-
-take-bytes : (z c w : ℕ) (xs : List ℕ) → z ≤ c → take z (bytesIn c w ++ xs) ≡ bytesIn z w
-take-bytes zero c w xs h = refl
-take-bytes (suc z) zero w xs h = let e : ⊥ = omega arith in absurd e
-take-bytes (suc z) (suc c) w xs h = rw (take-bytes z c (w / 256) xs (omega arith))
 
 bytes-pow : (z : ℕ) → 2 ^ (8 * z) ≡ 256 ^ z
 bytes-pow zero = refl
@@ -49,10 +41,6 @@ zeros (w ∷ ws) h =
     let f = eqb-true w 0 (and-l (eqb w 0) (allZero ws) h) in
     let g = zeros ws (and-r (eqb w 0) (allZero ws) h) in
     rw (f, ← g)
-
-pub length-words : (ws : List ℕ) → length (wordBytes ws) ≡ 8 * length ws
-length-words [] = refl
-length-words (w ∷ ws) = let h = length-words ws in omega arith
 
 -- each word has no bit at or past `bits`, and is a word
 abbrev pub Within : ℕ → List ℕ → Type 0

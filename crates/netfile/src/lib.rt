@@ -6,7 +6,7 @@ ghost use lib.ListN.{length, getD, take, drop};
 ghost use lib.Seq.{sets};
 ghost use Rattle.network.specs.Tests.{first};
 ghost use Rattle.network.specs.Tests as tests;
-ghost use Rattle.network.specs.Load.{littleEndian, isExcluded, headerRecord, gateTests, gateRecord, outputRecord, wordsFrom, setBytes, faninsIn, tableIn, withGate, withOutput, readOutputs, readGates, readBody, readOf, loadRefused};
+ghost use Rattle.network.specs.Load.{littleEndian, isExcluded, headerRecord, gateTests, gateRecord, outputRecord, wordsFrom, faninsIn, tableIn, withGate, withOutput, readOutputs, readGates, readBody, readOf, loadRefused};
 ghost use Rattle.network.specs.Load as file;
 ghost use Rattle.netfile.specs.Kind.{kindAt, notDue};
 use network::Answer;
@@ -114,17 +114,6 @@ fn words(bs: &[u8]) -> [u64; 16]
         i += 1;
     }
     ws
-}
-
-// How many bytes hold 2^n bits.
-fn set_bytes(n: u8) -> usize
-    requires { ⌜ n ≤ 10 ⌝ }
-    ensures { λ r. ⌜ (r ≡ setBytes n) × (r ≤ 128) ⌝ }
-{
-    if n < 3 {
-        return 1;
-    }
-    (bits::power(n as u64) / 8) as usize
 }
 
 // The tests of the first record: mark, length, counts.
@@ -327,7 +316,7 @@ fn excluded(t: Session, rest: &[u8]) -> Loaded
     ensures { λ r. ⌜ r ≡ readBody t (now (rest .entry)) ⌝ }
 {
     let n = t.n;
-    let e = 2 + set_bytes(n);
+    let e = 2 + network::set_bytes(n);
     if rest.len() < e {
         return refused(Refusal::Truncated);
     }

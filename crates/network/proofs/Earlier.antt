@@ -3,15 +3,15 @@
 use mathlib.Core.Path.{_≡_, refl, sym, ap, ap₂, _∙_, subst}
 use mathlib.Core.Bool.{Bool, true, false}
 use mathlib.Core.List.{List, [], _∷_, _++_, map}
-use Prim.Native.Nat.{ℕ, suc, _+_, _^_, _<_, _≤_}
+use Prim.Native.Nat.{ℕ, suc, _+_, _-_, _^_, _<_, _≤_}
 use native.Mathlib.Omega.{arith}
 use lib.Dec.{leb, ltb}
 use lib.ListN.{length, getD, length-append, length-map, List·getD-append}
 use borrow.Author.Tests.{leb-true, ltb-true}
 use Rattle.bits.specs.Bit.{bit, number}
 use Rattle.bits.proofs.Ranges.{and-l, and-r, places-at, number-lt}
-use Rattle.network.specs.Net.{Gate, Net, arity, isGate, noGate, entry, run}
-use Rattle.network.specs.Flat.{gateAt, gatesOf}
+use Rattle.network.specs.Net.{Gate, Net, arity, isGate, gate, noGate, entry, run}
+use Rattle.network.specs.Flat.{gateAt, gatesOf, netOf}
 use Rattle.network.specs.Valid.{NetOk}
 use Rattle.network.proofs.Laws.{arity-at, fanin-at, length-gates}
 
@@ -32,6 +32,12 @@ earlier-i (g ∷ gs) j f = (λ r h. omega (arith, f 0 (omega arith) r h), earlie
 pub gates-at : (ks fs ts : List ℕ) (m g : ℕ) → g < m → getD (gatesOf ks fs ts m) g noGate ≡ gateAt ks fs ts g
 unfolding gatesOf
 gates-at ks fs ts m g h = places-at noGate m (gateAt ks fs ts) g h
+
+pub gate-is : (ks fs ts ex outs : List ℕ) (n m p g : ℕ) → g < m → gate (netOf ks fs ts n m ex outs p) (n + g) ≡ gateAt ks fs ts g
+unfolding netOf
+gate-is ks fs ts ex outs n m p g h =
+    let e : n + g - n ≡ g = omega arith in
+    ap (λ (i : ℕ). getD (gatesOf ks fs ts m) i noGate) e ∙ gates-at ks fs ts m g h
 
 -- of the flat arrays
 pub earlier-net : {ks fs : List ℕ} {n m : ℕ} (ts : List ℕ) → NetOk ks fs n m → Earlier n (gatesOf ks fs ts m)

@@ -1,4 +1,5 @@
 pub mod Laws
+pub mod Bytes
 pub mod Fresh
 pub mod Valid
 pub mod Earlier

@@ -13,7 +13,7 @@ use borrow.Author.Tests.{eqb-true, eq-eqb, ne-eqb, not-true, not-false}
 use Rattle.bits.specs.Range.{_⇒_, places, every}
 use Rattle.bits.specs.Bit.{bit, differs}
 use Rattle.bits.proofs.Ranges.{by-cases, every-e, every-i, length-places, bit-table}
-use Rattle.bits.proofs.Logic.{imp-e, imp-i, differs-e}
+use Rattle.bits.proofs.Logic.{imp-e, imp-i, beq-comm, differs-e}
 use Rattle.network.specs.declared.Session.{Session}
 use Rattle.network.specs.declared.Answer.{Answer}
 use Rattle.network.specs.declared.Answer.the-variants.{Done, Refused}
@@ -99,12 +99,6 @@ module _ (N : Net) (early : Earlier (N .inputs) (N .gates)) (r : Replacement) (w
       (λ h. rw (values-with x .1 h, h, beq-comm (output N x i) (getD (valuesInverted N (r .signal) x) (getD (N .outputs) i 0) false)))
       (λ h. rw (values-with x .0 h, h, beq-same (output N x i)))
     where
-      beq-comm : (a b : Bool) → Bool·beq a b ≡ Bool·beq b a
-      beq-comm true true = refl
-      beq-comm true false = refl
-      beq-comm false true = refl
-      beq-comm false false = refl
-
       beq-same : (a : Bool) → Bool·beq a a ≡ true
       beq-same true = refl
       beq-same false = refl

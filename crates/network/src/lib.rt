@@ -1,4 +1,6 @@
 ghost use mathlib.Core.Path.{_≡_};
+ghost use Prim.Native.Nat.{_≤_};
+ghost use Rattle.network.specs.Load.{setBytes};
 
 // A session: the loaded and the current network in flat arrays, and the open tables that the load gave.
 // Gate g has its fan-ins at places 6 * g and on; a table has entry t at bit t.
@@ -80,4 +82,15 @@ pub fn place(x: u8) -> usize
     ensures { λ r. ⌜ r ≡ x ⌝ }
 {
     x as usize
+}
+
+// How many bytes hold 2^n bits.
+pub fn set_bytes(n: u8) -> usize
+    requires { ⌜ n ≤ 10 ⌝ }
+    ensures { λ r. ⌜ (r ≡ setBytes n) × (r ≤ 128) ⌝ }
+{
+    if n < 3 {
+        return 1;
+    }
+    (bits::power(n as u64) / 8) as usize
 }

@@ -2,14 +2,13 @@
 use mathlib.Core.Path.{_≡_, refl, ap, _∙_}
 use mathlib.Core.Bool.{true, false}
 use mathlib.Core.List.{List, [], _∷_, _++_}
-use Prim.Native.Nat.{ℕ, zero, suc, _+_, _*_, _-_, _^_, _/_, _%_, _≤_, _<_}
+use Prim.Native.Nat.{ℕ, zero, suc, _+_, _*_, _-_, _/_, _%_, _≤_, _<_}
 use native.Mathlib.Numerals.{add-one}
-use native.Mathlib.Nat.{add-zero, pow-le-pow-right}
+use native.Mathlib.Nat.{add-zero}
 use native.Mathlib.Omega.{arith}
 use lib.Dec.{eqb}
 use lib.ListN.{length, getD, take, drop, set, length-append, length-drop}
 use lib.Seq.{sets, sets-eq, take-append-add, take-suc, drop-cons, getD-drop, length-sets, length-take-le}
-use borrow.Author.Tests.{le-ltb, lt-ltb}
 use Rattle.bits.specs.Range.{places}
 use Rattle.bits.proofs.Ranges.{length-places}
 use Rattle.network.specs.declared.Session.{Session}
@@ -17,6 +16,7 @@ use Rattle.network.specs.State.{arityOf, faninsOf}
 use Rattle.network.specs.Load.{setBytes}
 use Rattle.network.specs.Write.{bytesIn, wordBytes, allZero, headerBytes, excludedBytes, gateBytes, gatesBytes, outputBytes, outputsBytes, bytesOf}
 use Rattle.network.specs.Calls.{overwritten}
+use Rattle.network.proofs.Bytes.{take-bytes, length-words}
 use Rattle.netwrite.specs.Laid.{Room, Laid}
 
 -- ## One stretch after the other
@@ -74,17 +74,8 @@ laid-start buffer bytes after r h l =
 
 -- ## Numbers and words
 
-pub length-bytes : (c x : ℕ) → length (bytesIn c x) ≡ c
-length-bytes zero x = refl
-length-bytes (suc c) x = ap suc (length-bytes c (x / 256))
-
 pub bytes-next : (c x : ℕ) → 0 < c → bytesIn c x ≡ x % 256 ∷ bytesIn (c - 1) (x / 256)
 bytes-next c x h = let q : c ≡ suc (c - 1) = omega arith in ap (λ (k : ℕ). bytesIn k x) q
-
-take-bytes : (z c w : ℕ) (xs : List ℕ) → z ≤ c → take z (bytesIn c w ++ xs) ≡ bytesIn z w
-take-bytes zero c w xs h = refl
-take-bytes (suc z) zero w xs h = let e : ⊥ = omega arith in absurd e
-take-bytes (suc z) (suc c) w xs h = rw (take-bytes z c (w / 256) xs (omega arith))
 
 -- a whole word
 pub words-next : (ws : List ℕ) (left w : ℕ) → 8 ≤ left → w < length ws
@@ -99,10 +90,6 @@ words-next ws left w l k =
 pub words-part : (ws : List ℕ) (left w : ℕ) → left < 8 → w < length ws → take left (wordBytes (drop w ws)) ≡ bytesIn left (getD ws w 0)
 words-part ws left w l k = rw (drop-cons ws w 0 k) (take-bytes left 8 (getD ws w 0) (wordBytes (drop (suc w) ws)) (omega arith))
 
-length-words : (ws : List ℕ) → length (wordBytes ws) ≡ 8 * length ws
-length-words [] = refl
-length-words (w ∷ ws) = let h = length-words ws in omega arith
-
 pub length-part : (ws : List ℕ) (z : ℕ) → length ws ≡ 16 → z ≤ 128 → length (take z (wordBytes ws)) ≡ z
 length-part ws z e h = length-take-le z (wordBytes ws) (let n = length-words ws in omega arith)
 
@@ -113,14 +100,6 @@ zero-next ws w h e = rw (drop-cons ws w 0 h, e, add-one)
 
 pub zero-not : (ws : List ℕ) (w : ℕ) → w < length ws → eqb (getD ws w 0) 0 ≡ false → false ≡ allZero (drop w ws)
 zero-not ws w h e = rw (drop-cons ws w 0 h, e)
-
-pub set-small : (n : ℕ) → n < 3 → 1 ≡ setBytes n
-set-small n h = rw (lt-ltb n 3 h)
-
-pub set-large : (n r : ℕ) → 3 ≤ n → n ≤ 10 → r ≡ 2 ^ n → (r / 8 ≡ setBytes n) × (r / 8 ≤ 128)
-set-large n r h l e =
-    let b : 2 ^ n ≤ 1024 = pow-le-pow-right {n = 2} (omega arith) {i = n} {j = 10} l in
-    (rw (e, le-ltb n 3 h), omega arith)
 
 -- left out, or two bytes and the set
 pub excluded-none : (s : Session) → allZero (s .excluded) ≡ true → excludedBytes s ≡ []

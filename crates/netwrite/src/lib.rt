@@ -4,7 +4,6 @@ ghost use Prim.Native.Nat.{_+_, _%_, _<_, _≤_};
 ghost use lib.ListN.{length, take};
 ghost use Rattle.network.specs.declared.Answer.the-variants.{Done};
 ghost use Rattle.network.specs.State.{arityOf, stateFault};
-ghost use Rattle.network.specs.Load.{setBytes};
 ghost use Rattle.network.specs.Write.{bytesIn, wordBytes, allZero, excludedBytes, gateBytes, gatesBytes, outputsBytes, bytesOf};
 ghost use Rattle.network.specs.Calls.{overwritten};
 ghost use Rattle.netwrite.specs.Laid.{Room, Laid};
@@ -83,17 +82,6 @@ fn none(words: [u64; 16]) -> bool
     true
 }
 
-// How many bytes hold 2^n bits.
-fn set_bytes(n: u8) -> usize
-    requires { ⌜ n ≤ 10 ⌝ }
-    ensures { λ r. ⌜ (r ≡ setBytes n) × (r ≤ 128) ⌝ }
-{
-    if n < 3 {
-        return 1;
-    }
-    (bits::power(n as u64) / 8) as usize
-}
-
 fn put_excluded(buf: &mut [u8], at: usize, s: Session) -> usize
     requires { ⌜ (s .n ≤ 10) × Room (now buf) at (excludedBytes s) ⌝ }
     ensures { λ r. ⌜ Laid (now (buf .entry)) at (excludedBytes s) (now (buf .exit)) r ⌝ }
@@ -104,7 +92,7 @@ fn put_excluded(buf: &mut [u8], at: usize, s: Session) -> usize
     }
     let mark = [0x4E, 0x58];
     let a = copy(buf, at, &mark);
-    put_words(buf, a, words, set_bytes(s.n))
+    put_words(buf, a, words, network::set_bytes(s.n))
 }
 
 fn put_gate(buf: &mut [u8], at: usize, s: Session, g: usize) -> usize
@@ -161,7 +149,7 @@ fn excluded_size(s: Session) -> usize
     if none(words) {
         return 0;
     }
-    2 + set_bytes(s.n)
+    2 + network::set_bytes(s.n)
 }
 
 // How long the gates' records are.

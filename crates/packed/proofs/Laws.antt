@@ -15,10 +15,9 @@ use Rattle.bits.proofs.Ranges.{and-l, and-r, and-i, iff}
 use Rattle.network.specs.declared.Session.{Session}
 use Rattle.network.specs.declared.Refusal.the-variants.{BufferTooShort, InvalidState}
 use Rattle.network.specs.declared.Answer.{Answer}
-use Rattle.network.specs.declared.Answer.the-variants.{Done, Refused}
-use Rattle.network.specs.Tests.{first}
 use Rattle.network.specs.State.{stateTest}
 use Rattle.network.specs.Load.{loadDone, loadRefused, onward}
+use Rattle.network.proofs.TestLaws.{alone}
 use Rattle.netwrite.specs.Laid.{Room, Laid}
 use Rattle.netwrite.proofs.Laws.{Left, left-step, left-room, left-done, laid-append, stored}
 use Rattle.packed.specs.Packed.{bytesHeld, wordsHeld, Sized, byteWords, part, sessionIn, bytesTest, wordsTest, unpackOf}
@@ -122,10 +121,6 @@ unfolding sessionIn
 reads ws a f o e l c u = rw (a, f, o, e, l, c, u)
 
 -- ## The tests of lent words
-
-alone : (a : Answer) → a ≡ first (a ∷ [])
-alone Done = refl
-alone (Refused r) = refl
 
 module _ (ws : List ℕ) where
   pub too-short : length ws < 427 → loadRefused BufferTooShort ≡ unpackOf ws

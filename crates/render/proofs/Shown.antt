@@ -21,12 +21,12 @@ use Rattle.network.specs.declared.Refusal.the-variants.{BufferTooShort}
 use Rattle.network.specs.Net.{Net, patterns}
 use Rattle.network.specs.DontCares.{cdc, full}
 use Rattle.network.specs.Compatible.{compatible, compatibleCount, openTable, openTables}
-use Rattle.network.specs.Flat.{netOf, loadedNet, currentNet}
+use Rattle.network.specs.Flat.{loadedNet, currentNet}
 use Rattle.network.specs.Refusals.{numberOf}
 use Rattle.network.specs.Load.{loadOf}
 use Rattle.network.specs.Calls.{overwritten}
-use Rattle.network.proofs.Laws.{length-gates}
 use Rattle.network.proofs.Reached.{loaded-fresh}
+use Rattle.network.proofs.Exchanges.{loaded-length, loaded-inputs}
 use Rattle.compatible.specs.Words.{perGate}
 use Rattle.dontcares.specs.Framed.{Tabled}
 use Rattle.netwrite.specs.Laid.{Laid}
@@ -68,14 +68,6 @@ shows-text N t v =
 
 -- ## The columns of a loaded session
 
-loaded-inputs : (s : Session) → loadedNet s .inputs ≡ s .n
-unfolding loadedNet netOf
-loaded-inputs s = refl
-
-loaded-gates : (s : Session) → length (loadedNet s .gates) ≡ s .m
-unfolding loadedNet netOf
-loaded-gates s = length-gates (s .arity) (s .fanins) (s .loaded) (s .m)
-
 current-loaded : (s : Session) → s .current ≡ s .loaded → currentNet s ≡ loadedNet s
 unfolding currentNet loadedNet
 current-loaded s e = rw e
@@ -94,7 +86,7 @@ module _ (s : Session) (t : Columns) (v : Loads s) (few : s .m ≤ 40) (en : t .
   shown =
       let N = loadedNet s in
       let i = loaded-inputs s in
-      let m = loaded-gates s in
+      let m = loaded-length s in
       let c = current-loaded s (v .same) in
       record {
         inputs = en ∙ sym i;

@@ -9,24 +9,25 @@ use denote.Ref.{now}
 use Rattle.network.specs.Flat.{netOf}
 use Rattle.network.specs.Valid.{NetOk}
 use Rattle.simulate.specs.Simulated.{Rows}
-use Rattle.dontcares.specs.Framed.{Framed, OdcAt, Tabled}
+use Rattle.dontcares.specs.Framed.{Framed, OdcAt, TabledFrom}
 use Rattle.dontcares.proofs.TableLaws.{no-tables, tables-more}
 use Rattle.dontcares.proofs.tables_of.Statement.{statement}
 use Rattle.dontcares.proofs.tables_of.Tie as tie
 
 abbrev Inv-loop : tie.InvT-loop
-Inv-loop m arity fanins excluded rows odc count live cdc₀ full₀ g₀ cdc full g =
-    (g ≤ m) × (length cdc ≡ 40) × (length full ≡ 40)
-    × ((ts outs : List ℕ) (n p : ℕ) → NetOk arity fanins n m → Rows arity fanins ts rows n m count → Framed n count live → ((g : ℕ) → g < m → OdcAt (netOf arity fanins ts n m excluded outs p) odc n g count)
-    → Tabled (netOf arity fanins ts n m excluded outs p) cdc full n g)
+Inv-loop a e arity fanins excluded rows odc count live cdc₀ full₀ g₀ cdc full g =
+    (a ≤ g) × (g ≤ e) × (length cdc ≡ 40) × (length full ≡ 40)
+    × ((ts outs : List ℕ) (n m p : ℕ) → e ≤ m → NetOk arity fanins n m → Rows arity fanins ts rows n m count → Framed n count live
+    → ((g : ℕ) → a ≤ g → g < e → OdcAt (netOf arity fanins ts n m excluded outs p) odc n g count)
+    → TabledFrom (netOf arity fanins ts n m excluded outs p) cdc full n a g)
 
 abbrev μ-loop : tie.MeasureT-loop
-μ-loop m arity fanins excluded rows odc count live cdc₀ full₀ g₀ cdc full g = m - g
+μ-loop a e arity fanins excluded rows odc count live cdc₀ full₀ g₀ cdc full g = e - g
 
 loop-holds : tie.Need-loop-holds Inv-loop μ-loop
 loop-holds c =
     let a = c .args in
-    (omega arith, refl, refl, λ ts outs n p ok sim framed at. no-tables (netOf (now (a .arity)) (now (a .fanins)) ts n (a .m) (now (a .excluded)) outs p) n)
+    (omega arith, omega arith, refl, refl, λ ts outs n m p most ok sim framed at. no-tables (netOf (now (a .arity)) (now (a .fanins)) ts n m (now (a .excluded)) outs p) n (a .a))
 
 tables-at-requires : tie.Need-tables-at-requires Inv-loop μ-loop
 tables-at-requires c κs =
@@ -56,20 +57,21 @@ loop-again c =
     let l = c .before .before in
     let a = l .before .args in (
       omega arith,
-      simp length-set (l .loop .inv .1),
+      omega arith,
       simp length-set (l .loop .inv .2),
-      λ ts outs n p ok sim framed at.
-          let t = c .tables-at .ensures ts outs n (a .m) p (omega arith) ok sim framed (at (l .loop .g) (omega arith)) in
-          tables-more (netOf (now (a .arity)) (now (a .fanins)) ts n (a .m) (now (a .excluded)) outs p) (l .loop .cdc) (l .loop .full) n (l .loop .g) (c .tables-at .result .cdc) (c .tables-at .result .full)
-          (l .loop .inv .1) (l .loop .inv .2) (omega arith) (l .loop .inv .3 ts outs n p ok sim framed at) (t .0) (t .1),
+      simp length-set (l .loop .inv .3),
+      λ ts outs n m p most ok sim framed at.
+          let t = c .tables-at .ensures ts outs n m p (omega arith) ok sim framed (at (l .loop .g) (omega arith) (omega arith)) in
+          tables-more (netOf (now (a .arity)) (now (a .fanins)) ts n m (now (a .excluded)) outs p) (l .loop .cdc) (l .loop .full) n (a .a) (l .loop .g) (c .tables-at .result .cdc) (c .tables-at .result .full)
+          (l .loop .inv .2) (l .loop .inv .3) (omega arith) (l .loop .inv .4 ts outs n m p most ok sim framed at) (t .0) (t .1),
     )
 
 returns : tie.Need-returns Inv-loop μ-loop
-returns c ts outs n p ok sim framed at =
+returns c ts outs n m p most ok sim framed at =
     let l = c .before in
     let a = l .before .args in
-    let e : l .loop .g ≡ a .m = omega arith in
-    subst (λ (k : ℕ). Tabled (netOf (now (a .arity)) (now (a .fanins)) ts n (a .m) (now (a .excluded)) outs p) (l .loop .cdc) (l .loop .full) n k) e (l .loop .inv .3 ts outs n p ok sim framed at)
+    let e : l .loop .g ≡ a .e = omega arith in
+    subst (λ (k : ℕ). TabledFrom (netOf (now (a .arity)) (now (a .fanins)) ts n m (now (a .excluded)) outs p) (l .loop .cdc) (l .loop .full) n (a .a) k) e (l .loop .inv .4 ts outs n m p most ok sim framed at)
 
 pub tables-of-spec : {M : Type 1} → statement M
 tables-of-spec =

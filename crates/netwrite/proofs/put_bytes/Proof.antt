@@ -4,7 +4,8 @@ use Prim.Native.Nat.{_-_, _/_, _%_}
 use native.Mathlib.Omega.{arith}
 use borrow.Author.Needs.{needs}
 use Rattle.network.specs.Write.{bytesIn}
-use Rattle.netwrite.proofs.Laws.{Left, left-start, left-step, left-done, stored, length-bytes, bytes-next}
+use Rattle.network.proofs.Bytes.{length-bytes}
+use Rattle.netwrite.proofs.Laws.{Left, left-start, left-step, left-done, stored, bytes-next}
 use Rattle.netwrite.proofs.put_bytes.Statement.{statement}
 use Rattle.netwrite.proofs.put_bytes.Tie as tie
 

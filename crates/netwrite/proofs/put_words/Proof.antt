@@ -6,7 +6,8 @@ use native.Mathlib.Omega.{arith}
 use lib.ListN.{length, getD, take, drop}
 use borrow.Author.Needs.{needs}
 use Rattle.network.specs.Write.{bytesIn, wordBytes}
-use Rattle.netwrite.proofs.Laws.{Left, left-start, left-step, left-done, laid-length, length-bytes, words-next, words-part}
+use Rattle.network.proofs.Bytes.{length-bytes}
+use Rattle.netwrite.proofs.Laws.{Left, left-start, left-step, left-done, laid-length, words-next, words-part}
 use Rattle.netwrite.proofs.put_words.Statement.{statement}
 use Rattle.netwrite.proofs.put_words.Tie as tie
 

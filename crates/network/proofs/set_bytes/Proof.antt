@@ -1,9 +1,9 @@
--- `set_bytes`. Assumes nothing.
+-- `network::set_bytes` meets its contract. Assumes nothing.
 use native.Mathlib.Omega.{arith}
 use borrow.Author.Needs.{needs}
-use Rattle.netwrite.proofs.Laws.{set-small, set-large}
-use Rattle.netwrite.proofs.set_bytes.Statement.{statement}
-use Rattle.netwrite.proofs.set_bytes.Tie as tie
+use Rattle.network.proofs.Bytes.{set-small, set-large}
+use Rattle.network.proofs.set_bytes.Statement.{statement}
+use Rattle.network.proofs.set_bytes.Tie as tie
 
 returns : tie.Need-returns
 returns c = (set-small _ (c .if1 .taken), omega arith)
