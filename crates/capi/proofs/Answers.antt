@@ -30,16 +30,17 @@ use Rattle.network.specs.Refusals.{numberOf, valuesOf}
 use Rattle.network.specs.Tests.{first}
 use Rattle.network.specs.State.{stateTest}
 use Rattle.network.specs.Load.{loadOf}
-use Rattle.network.specs.Calls.{gateTest, gateTables, givenTables, tablesOf, roomTest, overwritten, filled, writeAnswer, countsOf}
+use Rattle.network.specs.Calls.{gateTest, gateTables, givenTables, tablesOf, Filled, roomTest, overwritten, filled, writeAnswer, countsOf}
 use Rattle.network.proofs.TestLaws.{refused-done, alone, count-e}
 use Rattle.network.proofs.Valid.{valid-e, state-e}
 use Rattle.netwrite.specs.Laid.{Laid}
 use Rattle.netwrite.proofs.Laws.{laid-append, laid-length, laid-start, part-places}
 use Rattle.dontcares.specs.Framed.{Tabled}
+use Rattle.engine.specs.Written.{Written, withLength}
 use Rattle.engine.proofs.Laws.{counts-done}
 use Rattle.packed.specs.Packed.{packedOf, sessionWords}
 use Rattle.capi.specs.Boundary.{Left, left, loadAnswer, loadCall, tableWords, tablesWork, allTableWords}
-use Rattle.capi.proofs.Names.{Names, names-first, names-room, names-state, names-gate}
+use Rattle.capi.proofs.Names.{Names, names-first, names-room, names-state, names-gate, names-load}
 use Rattle.capi.proofs.Laws.{Leaves, told, refused, done, worked}
 
 -- ## Load
@@ -48,16 +49,17 @@ module _ (file session : List ℕ) {l : Loaded} {a : Answer} (e : l ≡ loadOf f
   load-answer : a ≡ loadAnswer file session
   load-answer = f ∙ ap (λ (x : Loaded). first (x .answer ∷ roomTest sessionWords session ∷ [])) e
 
-  pub load-refused : {r : Refusal} {k : ℕ} → a ≡ Refused r → k ≡ numberOf r → (k ≡ loadCall file session .number) × (session ≡ loadCall file session .buffer)
+  pub load-refused : {r : Refusal} {k : ℕ} → a ≡ Refused r → k ≡ numberOf r → Leaves (loadCall file session) k session []
   unfolding loadCall
-  load-refused h p = let v = told [] (packedOf (loadOf file .session)) session [] (sym load-answer ∙ h) p refl in (v .0, v .1)
+  load-refused h p =
+      let n = names-first 0 (loadOf file .answer ∷ roomTest sessionWords session ∷ []) (names-load file, (names-room 0 sessionWords session, tt)) in
+      refused [] (packedOf (loadOf file .session)) session [] (sym load-answer ∙ h) n p
 
-  pub load-done : {b : List ℕ} → a ≡ Done → b ≡ overwritten (packedOf (l .session)) session → (0 ≡ loadCall file session .number) × (b ≡ loadCall file session .buffer)
+  pub load-done : {b : List ℕ} → a ≡ Done → b ≡ overwritten (packedOf (l .session)) session → Leaves (loadCall file session) 0 b []
   unfolding loadCall
   load-done h p =
       let q = p ∙ ap (λ (x : Loaded). overwritten (packedOf (x .session)) session) e in
-      let v = done [] (packedOf (loadOf file .session)) session [] (sym load-answer ∙ h) q refl in
-      (v .0, v .1)
+      done [] (packedOf (loadOf file .session)) session [] (sym load-answer ∙ h) q refl
 
 -- ## Tables of a gate
 
@@ -152,39 +154,56 @@ module _ (new buffer out : List ℕ) {y v : Answer} (e : v ≡ y) where
 abbrev pub fills : Answer → (given new buffer out : List ℕ) → Left
 fills y given new buffer out = left (first (filled y new buffer .answer ∷ [])) given new buffer out
 
-module _ (y : Answer) (given new buffer out : List ℕ) {b : List ℕ} (q : b ≡ filled y new buffer .buffer) where
-  pub filled-refused : {r : Refusal} {k : ℕ} → Names 0 y → filled y new buffer .answer ≡ Refused r → k ≡ numberOf r → Leaves (fills y given new buffer out) k b out
-  filled-refused {r} {k} n h p = rw q (go y n h)
+module _ (y : Answer) (given new buffer out : List ℕ) {v : Answer} {b : List ℕ} (q : record { answer = v; buffer = b } ≡ filled y new buffer) where
+  answer-is : filled y new buffer .answer ≡ v
+  answer-is = ap (λ (f : Filled). f .answer) (sym q)
+
+  buffer-is : b ≡ filled y new buffer .buffer
+  buffer-is = ap (λ (f : Filled). f .buffer) q
+
+  pub filled-refused : {r : Refusal} {k : ℕ} → Names 0 y → v ≡ Refused r → k ≡ numberOf r → Leaves (fills y given new buffer out) k b out
+  filled-refused {r} {k} n h p = rw buffer-is (go y n (answer-is ∙ h))
     where
       go : (a : Answer) → Names 0 a → filled a new buffer .answer ≡ Refused r → Leaves (fills a given new buffer out) k (filled a new buffer .buffer) out
       go Done m e = refused-done r (sym e)
       go (Refused f) m e = refused given new buffer out e m p
 
-  pub filled-done : {o : List ℕ} → filled y new buffer .answer ≡ Done → o ≡ overwritten given out → Leaves (fills y given new buffer out) 0 b o
-  filled-done {o} h p = rw q (go y h)
+  pub filled-done : {o : List ℕ} → v ≡ Done → o ≡ overwritten given out → Leaves (fills y given new buffer out) 0 b o
+  filled-done {o} h p = rw buffer-is (go y (answer-is ∙ h))
     where
       go : (a : Answer) → filled a new buffer .answer ≡ Done → Leaves (fills a given new buffer out) 0 (filled a new buffer .buffer) o
-      go Done e = (refl, refl, p)
+      go Done e = rw p
       go (Refused f) e = refused-done f e
 
 -- and gives the length in `out`
-module _ (y : Answer) (new buffer out : List ℕ) {b : List ℕ} {w : WriteAnswer}
-    (e : w ≡ writeAnswer (filled y new buffer .answer) (length new)) (q : b ≡ filled y new buffer .buffer) where
+module _ (y : Answer) (new buffer out : List ℕ) {w : WriteAnswer} {b : List ℕ}
+    (q : record { answer = w; buffer = b } ≡ withLength (length new) (filled y new buffer)) where
+  told-as : w ≡ writeAnswer (filled y new buffer .answer) (length new)
+  told-as = ap (λ (x : Written). x .answer) q
+
+  filled-as : record { answer = filled y new buffer .answer; buffer = b } ≡ filled y new buffer
+  filled-as = rw (ap (λ (x : Written). x .buffer) q)
+
   pub written : {n : ℕ} {o : List ℕ} → w ≡ write.Written n → o ≡ overwritten (n ∷ []) out → Leaves (fills y (length new ∷ []) new buffer out) 0 b o
   written {n} h p =
-      let g = go (filled y new buffer .answer) (sym h ∙ e) in
-      filled-done y (length new ∷ []) new buffer out q (g .0) (p ∙ ap (λ (i : ℕ). overwritten (i ∷ []) out) (g .1))
+      let g = go (filled y new buffer .answer) (sym h ∙ told-as) in
+      filled-done y (length new ∷ []) new buffer out filled-as (g .0) (p ∙ ap (λ (i : ℕ). overwritten (i ∷ []) out) (g .1))
     where
       go : (a : Answer) → write.Written n ≡ writeAnswer a (length new) → (a ≡ Done) × (n ≡ length new)
       go Done d = (refl, cc)
       go (Refused r) d = let z : _≡_ {A = ℕ} 0 1 = cc in let m : ⊥ = omega arith in absurd m
 
   pub unwritten : {r : Refusal} {k : ℕ} → Names 0 y → w ≡ write.Refused r → k ≡ numberOf r → Leaves (fills y (length new ∷ []) new buffer out) k b out
-  unwritten {r} m h p = filled-refused y (length new ∷ []) new buffer out q m (go (filled y new buffer .answer) (sym h ∙ e)) p
+  unwritten {r} m h p = filled-refused y (length new ∷ []) new buffer out filled-as m (go (filled y new buffer .answer) (sym h ∙ told-as)) p
     where
       go : (a : Answer) → write.Refused r ≡ writeAnswer a (length new) → a ≡ Refused r
       go Done d = cc
       go (Refused f) d = cc
+
+-- such a call's answer and its buffer, told as one
+pub whole : (size : ℕ) (f : Filled) {w : WriteAnswer} {b : List ℕ} → w ≡ writeAnswer (f .answer) size → b ≡ f .buffer
+    → record { answer = w; buffer = b } ≡ withLength size f
+whole size f p q = rw (p, q)
 
 -- the session, then the room
 pub names-filling : (s : Session) (needed : ℕ) (buffer : List ℕ) → Names 0 (first (stateTest s ∷ roomTest needed buffer ∷ []))

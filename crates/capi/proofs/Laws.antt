@@ -25,11 +25,11 @@ use Rattle.capi.proofs.Names.{Names, names-first, names-room, names-wor
 -- ## What a call leaves
 
 abbrev pub Leaves : Left → (number : ℕ) (buffer out : List ℕ) → Type 0
-Leaves x number buffer out = (number ≡ x .number) × (buffer ≡ x .buffer) × (out ≡ x .out)
+Leaves x number buffer out = record { number = number; buffer = buffer; out = out } ≡ x
 
 module _ {a : Answer} (given new buffer out : List ℕ) where
   pub told : {r : Refusal} {k : ℕ} {o : List ℕ} → a ≡ Refused r → k ≡ numberOf r → o ≡ overwritten (valuesOf r) out → Leaves (left a given new buffer out) k buffer o
-  told e p q = rw e (p, refl, q)
+  told e p q = rw (e, p, q)
 
   -- a refusal that names nothing changes nothing
   pub refused : {r : Refusal} {k : ℕ} → a ≡ Refused r → Names 0 a → k ≡ numberOf r → Leaves (left a given new buffer out) k buffer out
@@ -40,7 +40,7 @@ module _ {a : Answer} (given new buffer out : List ℕ) where
       none (x ∷ l) n = let z : ⊥ = omega arith in absurd z
 
   pub done : {b o : List ℕ} → a ≡ Done → b ≡ overwritten new buffer → o ≡ overwritten given out → Leaves (left a given new buffer out) 0 b o
-  done e p q = rw e (refl, p, q)
+  done e p q = rw (e, p, q)
 
 -- what a call leaves once the tests of the words and of the room refuse nothing
 abbrev pub worked : Work → (buffer out : List ℕ) → Left

@@ -12,6 +12,7 @@ use types.Run.{OneOf, miss}
 use Rattle.bits.specs.declared.Found.{Found}
 use Rattle.bits.specs.declared.Found.the-variants.{At, Nothing}
 use Rattle.bits.specs.Range.{every, smallest}
+use Rattle.bits.proofs.Logic.{clash}
 use Rattle.network.specs.declared.Session.{Session}
 use Rattle.network.specs.declared.Refusal.{Refusal}
 use Rattle.network.specs.declared.Refusal.the-variants.{Truncated, UnexpectedMark, OutOfBounds, FaninNotEarlier, FaninRepeated, BitPastEnd, NotASignal, TrailingBytes, BufferTooShort, InvalidState, NotAGate, TableTooWide, ClosedEntry, Harm}
@@ -22,13 +23,31 @@ use Rattle.network.specs.Flat.{loadedNet, currentNet}
 use Rattle.network.specs.Refusals.{valuesOf}
 use Rattle.network.specs.Tests.{refuseIf, orElse, first}
 use Rattle.network.specs.State.{stateFault, asInvalid, stateTest}
+use Rattle.network.specs.Load.{loadDone, onward, readOf, opened, loadOf}
 use Rattle.network.specs.Calls.{gateTest, fits, tableTest, alters, entryFound, closedTest, harmTest, heldClosed, exchangeTests, exchangeAnswer, verdictOf, roomTest}
 use Rattle.network.proofs.Refusal.{the-type}
-use Rattle.engine.proofs.Outcomes.{harm-only}
+use Rattle.engine.proofs.Outcomes.{Among, harm-only, file, read-among}
 use Rattle.packed.specs.Packed.{sessionWords, byteWords, sessionIn, bytesTest, wordsTest}
 use Rattle.capi.specs.Boundary.{valuesFor}
 
 -- ## A refusal that is neither 13 nor 14
+
+-- it names nothing
+quiet : (r : Refusal) → ((t : ℕ) → r ≡ ClosedEntry t → ⊥) → ((x i : ℕ) → r ≡ Harm x i → ⊥) → valuesOf r ≡ []
+quiet Truncated p q = refl
+quiet UnexpectedMark p q = refl
+quiet OutOfBounds p q = refl
+quiet FaninNotEarlier p q = refl
+quiet FaninRepeated p q = refl
+quiet BitPastEnd p q = refl
+quiet NotASignal p q = refl
+quiet TrailingBytes p q = refl
+quiet BufferTooShort p q = refl
+quiet InvalidState p q = refl
+quiet NotAGate p q = refl
+quiet TableTooWide p q = refl
+quiet (ClosedEntry t) p q = absurd (p t refl)
+quiet (Harm x i) p q = absurd (q x i refl)
 
 -- the places of all variants but 13's, and but 14's
 abbrev pub no13 : List ℕ
@@ -37,21 +56,9 @@ no13 = 0 ∷ 1 ∷ 2 ∷ 3 ∷ 4 ∷ 5 ∷ 6 ∷ 7 ∷ 8 ∷ 9 ∷ 10 ∷ 11 ∷
 abbrev pub no14 : List ℕ
 no14 = 0 ∷ 1 ∷ 2 ∷ 3 ∷ 4 ∷ 5 ∷ 6 ∷ 7 ∷ 8 ∷ 9 ∷ 10 ∷ 11 ∷ 12 ∷ []
 
+-- the same, of a variant at one of these places
 pub silent : (r : Refusal) → OneOf no13 (tagOf the-type r) → OneOf no14 (tagOf the-type r) → valuesOf r ≡ []
-silent Truncated p q = refl
-silent UnexpectedMark p q = refl
-silent OutOfBounds p q = refl
-silent FaninNotEarlier p q = refl
-silent FaninRepeated p q = refl
-silent BitPastEnd p q = refl
-silent NotASignal p q = refl
-silent TrailingBytes p q = refl
-silent BufferTooShort p q = refl
-silent InvalidState p q = refl
-silent NotAGate p q = refl
-silent TableTooWide p q = refl
-silent (ClosedEntry t) p q = absurd (miss no13 12 tt p)
-silent (Harm x i) p q = absurd (miss no14 13 tt q)
+silent r p q = quiet r (λ t e. miss no13 12 tt (rw e at p)) (λ x i e. miss no14 13 tt (rw e at q))
 
 -- ## An answer
 
@@ -104,6 +111,15 @@ module _ (k : ℕ) where
   names-words ws =
       names-first (roomTest sessionWords ws ∷ bytesTest ws ∷ stateTest (sessionIn ws) ∷ [])
       (names-room sessionWords ws, (names-if (not (every byteWords (λ i. ltb (getD ws i 0) 256))) InvalidState (omega arith), (names-state (sessionIn ws), tt)))
+
+-- the numbers of a file's refusals are below 9
+pub names-load : (bytes : List ℕ) → Names 0 (loadOf bytes .answer)
+unfolding loadOf
+names-load bytes = go (readOf bytes .answer) (read-among bytes)
+  where
+    go : (a : Answer) → Among file a → Names 0 (onward a (loadDone (opened (readOf bytes .session))) .answer)
+    go Done h = omega arith
+    go (Refused r) h = rw (quiet r (λ t e. clash (rw e at h) refl) (λ x i e. clash (rw e at h) refl)) (omega arith)
 
 pub names-exchange : (s : Session) (r : Replacement) → Names 1 (exchangeAnswer s r)
 unfolding exchangeAnswer closedTest

@@ -31,6 +31,7 @@ abbrev pub valuesFor : Answer → List ℕ → List ℕ
 valuesFor Done given = given
 valuesFor (Refused r) given = valuesOf r
 
+-- [] where no buffer or no `out` is lent
 pub record Left : Type 0 where
   pub number : ℕ
   pub buffer : List ℕ

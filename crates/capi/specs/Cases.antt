@@ -2,11 +2,11 @@
 -- A case is a pair: what the definitions give, and what is stated. Assumes nothing.
 use mathlib.Core.List.{List, [], _∷_, _++_}
 use Prim.Native.Nat.{ℕ}
-use lib.ListN.{getD, set, take, replicate}
+use lib.ListN.{set, take, replicate}
 use Rattle.network.specs.Net.{Replacement}
 use Rattle.network.specs.Cases.{twinBytes, twinSession}
 use Rattle.packed.specs.Packed.{packedOf}
-use Rattle.capi.specs.Boundary.{Left, loadCall, tablesCall, patternSetsCall, hiddenCall, verdictCall, exchangeCall, writeCall}
+use Rattle.capi.specs.Boundary.{Left, loadCall, listingCall, tablesCall, allTablesCall, patternSetsCall, hiddenCall, verdictCall, exchangeCall, writeCall}
 
 -- the twin network's session, with one word behind it
 abbrev pub words : List ℕ
@@ -30,6 +30,7 @@ laid l = l .number ∷ l .buffer
 abbrev pub cases : List (List ℕ × List ℕ)
 cases =
     (told (tablesCall words 1 (replicate 5 7)), 0 ∷ 6 ∷ 0 ∷ 2 ∷ 2 ∷ 7 ∷ [])
+    ∷ (told (allTablesCall words (replicate 13 7)), 0 ∷ 6 ∷ 0 ∷ 2 ∷ 2 ∷ 6 ∷ 0 ∷ 2 ∷ 0 ∷ 0x1E ∷ 6 ∷ 6 ∷ 2 ∷ 7 ∷ [])
     ∷ (laid (patternSetsCall words (replicate 7 7)), 0 ∷ 2 ∷ 2 ∷ 2 ∷ 0 ∷ 0 ∷ 0 ∷ 7 ∷ [])
     ∷ (told (hiddenCall words (replicate 4 7)), 0 ∷ 1 ∷ 0 ∷ 0 ∷ 7 ∷ [])
     ∷ (laid (exchangeCall words (cleared 1) (7 ∷ [])), 0 ∷ changed)
@@ -39,6 +40,10 @@ cases =
     ∷ (told (verdictCall changed (cleared 2) (7 ∷ 7 ∷ [])), 14 ∷ 1 ∷ 0 ∷ [])
     ∷ (told (writeCall words (replicate 28 7) (7 ∷ [])), 0 ∷ 27 ∷ [])
     ∷ (laid (writeCall words (replicate 28 7) (7 ∷ [])), 0 ∷ twinBytes ++ 7 ∷ [])
+    -- a loaded file, and the line of a refused one: `refused 1`
+    ∷ (laid (loadCall twinBytes (replicate 428 9)), 0 ∷ words)
+    ∷ (told (listingCall (take 26 twinBytes) (replicate 11 7) (7 ∷ 7 ∷ [])), 0 ∷ 10 ∷ 7 ∷ [])
+    ∷ (laid (listingCall (take 26 twinBytes) (replicate 11 7) (7 ∷ 7 ∷ [])), 0 ∷ 0x72 ∷ 0x65 ∷ 0x66 ∷ 0x75 ∷ 0x73 ∷ 0x65 ∷ 0x64 ∷ 0x20 ∷ 0x31 ∷ 0x0A ∷ 7 ∷ [])
     -- a refusal leaves what is lent: too short, no session, no room, no gate
     ∷ (told (exchangeCall (take 426 words) (cleared 1) []), 9 ∷ [])
     ∷ (told (exchangeCall (replicate 427 0) (cleared 1) []), 10 ∷ [])

@@ -11,6 +11,7 @@ ghost use Rattle.network.specs.Refusals.{numberOf, valuesOf};
 ghost use Rattle.network.specs.Tests.{refuseIf, first};
 ghost use Rattle.network.specs.State.{stateFault};
 ghost use Rattle.network.specs.Calls.{overwritten};
+ghost use Rattle.packed.specs.Packed.{sessionWords};
 ghost use Rattle.capi.specs.Boundary.{loadCall, listingCall, tablesCall, allTableWords, allTablesCall, patternSetsCall, hiddenCall, verdictCall, exchangeCall, writeCall};
 use network::Answer;
 use network::Refusal;
@@ -60,14 +61,14 @@ fn room(a: Answer, lent: usize, needed: usize) -> Answer
 // The words that a session takes.
 #[no_mangle]
 pub extern "C" fn tusqirma_session_words() -> usize
-    ensures { λ r. ⌜ r ≡ 427 ⌝ }
+    ensures { λ r. ⌜ r ≡ sessionWords ⌝ }
 {
     packed::session_words()
 }
 
 #[no_mangle]
 pub extern "C" fn tusqirma_load(file: &[u8], session: &mut [u64]) -> u64
-    ensures { λ r. ⌜ (r ≡ loadCall (now (file .entry)) (now (session .entry)) .number) × (now (session .exit) ≡ loadCall (now (file .entry)) (now (session .entry)) .buffer) ⌝ }
+    ensures { λ r. ⌜ record { number = r; buffer = now (session .exit); out = [] } ≡ loadCall (now (file .entry)) (now (session .entry)) ⌝ }
 {
     let l = engine::load(file);
     let tested = l.answer;
@@ -82,7 +83,7 @@ pub extern "C" fn tusqirma_load(file: &[u8], session: &mut [u64]) -> u64
 // The SDC, CDC, full and open table of a gate.
 #[no_mangle]
 pub extern "C" fn tusqirma_tables(session: &[u64], gate: usize, out: &mut [u64]) -> u64
-    ensures { λ r. ⌜ (r ≡ tablesCall (now (session .entry)) gate (now (out .entry)) .number) × (now (out .exit) ≡ tablesCall (now (session .entry)) gate (now (out .entry)) .out) ⌝ }
+    ensures { λ r. ⌜ record { number = r; buffer = []; out = now (out .exit) } ≡ tablesCall (now (session .entry)) gate (now (out .entry)) ⌝ }
 {
     let l = packed::unpack(session);
     let tested = l.answer;
@@ -103,7 +104,7 @@ pub extern "C" fn tusqirma_tables(session: &[u64], gate: usize, out: &mut [u64])
 // The ODC and the compatible set of each gate.
 #[no_mangle]
 pub extern "C" fn tusqirma_pattern_sets(session: &[u64], words: &mut [u64]) -> u64
-    ensures { λ r. ⌜ (r ≡ patternSetsCall (now (session .entry)) (now (words .entry)) .number) × (now (words .exit) ≡ patternSetsCall (now (session .entry)) (now (words .entry)) .buffer) ⌝ }
+    ensures { λ r. ⌜ record { number = r; buffer = now (words .exit); out = [] } ≡ patternSetsCall (now (session .entry)) (now (words .entry)) ⌝ }
 {
     let l = packed::unpack(session);
     let a = l.answer;
@@ -120,7 +121,7 @@ pub extern "C" fn tusqirma_pattern_sets(session: &[u64], words: &mut [u64]) -> u
 // Harm that a lone replacement does.
 #[no_mangle]
 pub extern "C" fn tusqirma_verdict(session: &[u64], gate: usize, table: u64, out: &mut [u64]) -> u64
-    ensures { λ r. ⌜ (r ≡ verdictCall (now (session .entry)) (record { signal = gate; table = table }) (now (out .entry)) .number) × (now (out .exit) ≡ verdictCall (now (session .entry)) (record { signal = gate; table = table }) (now (out .entry)) .out) ⌝ }
+    ensures { λ r. ⌜ record { number = r; buffer = []; out = now (out .exit) } ≡ verdictCall (now (session .entry)) (record { signal = gate; table = table }) (now (out .entry)) ⌝ }
 {
     let l = packed::unpack(session);
     let tested = l.answer;
@@ -143,7 +144,7 @@ pub extern "C" fn tusqirma_exchange(
     table: u64,
     out: &mut [u64],
 ) -> u64
-    ensures { λ r. ⌜ (r ≡ exchangeCall (now (session .entry)) (record { signal = gate; table = table }) (now (out .entry)) .number) × (now (session .exit) ≡ exchangeCall (now (session .entry)) (record { signal = gate; table = table }) (now (out .entry)) .buffer) × (now (out .exit) ≡ exchangeCall (now (session .entry)) (record { signal = gate; table = table }) (now (out .entry)) .out) ⌝ }
+    ensures { λ r. ⌜ record { number = r; buffer = now (session .exit); out = now (out .exit) } ≡ exchangeCall (now (session .entry)) (record { signal = gate; table = table }) (now (out .entry)) ⌝ }
 {
     let l = packed::unpack(session);
     let tested = l.answer;
@@ -165,7 +166,7 @@ pub extern "C" fn tusqirma_exchange(
 // The file's bytes, and its length.
 #[no_mangle]
 pub extern "C" fn tusqirma_write(session: &[u64], file: &mut [u8], out: &mut [u64]) -> u64
-    ensures { λ r. ⌜ (r ≡ writeCall (now (session .entry)) (now (file .entry)) (now (out .entry)) .number) × (now (file .exit) ≡ writeCall (now (session .entry)) (now (file .entry)) (now (out .entry)) .buffer) × (now (out .exit) ≡ writeCall (now (session .entry)) (now (file .entry)) (now (out .entry)) .out) ⌝ }
+    ensures { λ r. ⌜ record { number = r; buffer = now (file .exit); out = now (out .exit) } ≡ writeCall (now (session .entry)) (now (file .entry)) (now (out .entry)) ⌝ }
 {
     let l = packed::unpack(session);
     let tested = l.answer;
@@ -186,7 +187,7 @@ pub extern "C" fn tusqirma_write(session: &[u64], file: &mut [u8], out: &mut [u6
 // The listing's text, and its length.
 #[no_mangle]
 pub extern "C" fn tusqirma_listing(file: &[u8], text: &mut [u8], out: &mut [u64]) -> u64
-    ensures { λ r. ⌜ (r ≡ listingCall (now (file .entry)) (now (text .entry)) (now (out .entry)) .number) × (now (text .exit) ≡ listingCall (now (file .entry)) (now (text .entry)) (now (out .entry)) .buffer) × (now (out .exit) ≡ listingCall (now (file .entry)) (now (text .entry)) (now (out .entry)) .out) ⌝ }
+    ensures { λ r. ⌜ record { number = r; buffer = now (text .exit); out = now (out .exit) } ≡ listingCall (now (file .entry)) (now (text .entry)) (now (out .entry)) ⌝ }
 {
     if out.len() < 1 {
         return 9;
@@ -204,7 +205,7 @@ pub extern "C" fn tusqirma_listing(file: &[u8], text: &mut [u8], out: &mut [u64]
 // The number of patterns in the compatible set of each gate.
 #[no_mangle]
 pub extern "C" fn tusqirma_hidden(session: &[u64], out: &mut [u64]) -> u64
-    ensures { λ r. ⌜ (r ≡ hiddenCall (now (session .entry)) (now (out .entry)) .number) × (now (out .exit) ≡ hiddenCall (now (session .entry)) (now (out .entry)) .out) ⌝ }
+    ensures { λ r. ⌜ record { number = r; buffer = []; out = now (out .exit) } ≡ hiddenCall (now (session .entry)) (now (out .entry)) ⌝ }
 {
     let l = packed::unpack(session);
     let tested = l.answer;
@@ -241,7 +242,7 @@ fn put_tables(s: Session, out: &mut [u64])
 // The SDC, CDC, full and open table of every gate.
 #[no_mangle]
 pub extern "C" fn tusqirma_all_tables(session: &[u64], out: &mut [u64]) -> u64
-    ensures { λ r. ⌜ (r ≡ allTablesCall (now (session .entry)) (now (out .entry)) .number) × (now (out .exit) ≡ allTablesCall (now (session .entry)) (now (out .entry)) .out) ⌝ }
+    ensures { λ r. ⌜ record { number = r; buffer = []; out = now (out .exit) } ≡ allTablesCall (now (session .entry)) (now (out .entry)) ⌝ }
 {
     let l = packed::unpack(session);
     let tested = l.answer;

@@ -33,6 +33,7 @@ use Rattle.network.proofs.Reached.{loaded-fresh, loaded-shaped}
 use Rattle.network.proofs.Harm.{harm-done, harm-at}
 use Rattle.network.proofs.Demand3.{demand3-of, rule4-of}
 use Rattle.netfile.proofs.RoundTrip.{way-back}
+use Rattle.engine.specs.Written.{withLength, writtenOf}
 use Rattle.engine.specs.Demands.{Ends, Demand1, lone, Changes, Judged, Reached, Demand2, Demand3}
 use Rattle.engine.proofs.Outcomes.{file, ends, harm-only, tests-end, room-among, state-among, gate-among, table-among, closed-among, harm-among, read-among}
 
@@ -45,10 +46,12 @@ module _ (s : Session) (new buffer : List ℕ) where
   abbrev full-buffer : Filled
   full-buffer = record { answer = Done; buffer = overwritten new buffer }
 
-  fills-end : Ends (filled (first fillTests) new buffer) full-buffer (9 ∷ 10 ∷ []) (λ r. record { answer = Refused r; buffer = buffer })
-  fills-end =
+  -- seen in some way, as with the length
+  fills-end : {A : Type 0} (seen : Filled → A)
+      → Ends (seen (filled (first fillTests) new buffer)) (seen full-buffer) (9 ∷ 10 ∷ []) (λ r. seen (record { answer = Refused r; buffer = buffer }))
+  fills-end seen =
       let ns : List ℕ = 9 ∷ 10 ∷ [] in
-      tests-end ns (λ a. filled a new buffer) fillTests (state-among ns refl s, (room-among ns refl (length new) buffer, tt))
+      tests-end ns (λ a. seen (filled a new buffer)) fillTests (state-among ns refl s, (room-among ns refl (length new) buffer, tt))
 
   fills-done : stateTest s ≡ Done → length new ≤ length buffer → filled (first fillTests) new buffer ≡ full-buffer
   fills-done v l = rw (v, le-ltb (length buffer) (length new) l)
@@ -56,13 +59,13 @@ module _ (s : Session) (new buffer : List ℕ) where
 -- ## Demand 1
 
 pub demand1 : Demand1
-unfolding loadOf tablesOf patternSetsOf exchangeOf exchangeAnswer verdictOf writeOf countsOf
+unfolding loadOf tablesOf patternSetsOf exchangeOf exchangeAnswer verdictOf writeOf writtenOf countsOf
 demand1 = record {
   load = λ bytes. ends file (λ a. onward a (loadDone (opened (readOf bytes .session)))) (readOf bytes .answer) (read-among bytes);
   tables = λ s g. let ns : List ℕ = 10 ∷ 11 ∷ [] in
       tests-end ns (λ a. givenTables a (gateTables s g)) (stateTest s ∷ gateTest (loadedNet s) g ∷ [])
       (state-among ns refl s, (gate-among ns refl (loadedNet s) g, tt));
-  patternSets = λ s buffer. fills-end s (setWords s (s .m)) buffer;
+  patternSets = λ s buffer. fills-end s (setWords s (s .m)) buffer (λ f. f);
   exchange = λ s r. let ns : List ℕ = 10 ∷ 11 ∷ 12 ∷ 13 ∷ [] in
       let N = loadedNet s in
       let shut = heldClosed s (r .signal) in
@@ -73,7 +76,7 @@ demand1 = record {
       let M = lone s r in
       tests-end ns (λ a. a) (stateTest s ∷ gateTest N (r .signal) ∷ tableTest N r ∷ harmTest N M ∷ [])
       (state-among ns refl s, (gate-among ns refl N (r .signal), (table-among ns refl N r, (harm-among ns (λ x i. refl) N M, tt))));
-  write = λ s buffer. fills-end s (bytesOf s) buffer;
+  write = λ s buffer. fills-end s (bytesOf s) buffer (withLength (length (bytesOf s)));
   counts = λ s. ends (10 ∷ []) (λ a. countsFor a s) (stateTest s) (state-among (10 ∷ []) refl s);
 }
 
@@ -156,7 +159,7 @@ module _ (s : Session) (fresh : Fresh s) (rs : List Replacement) where
   }
 
 pub demand2 : Demand2
-unfolding patternSetsOf writeOf
+unfolding patternSetsOf writeOf writtenOf
 demand2 = record {
   tables = λ s g v. tables-are s v g;
   patternSets = λ s buffer. fills-done s (setWords s (s .m)) buffer;
@@ -164,7 +167,7 @@ demand2 = record {
   harmful = harmful-is;
   shown = λ s r x i j. shown-at s r j x i;
   harmless = harmless-is;
-  written = λ s buffer. fills-done s (bytesOf s) buffer;
+  written = λ s buffer v l. ap (withLength (length (bytesOf s))) (fills-done s (bytesOf s) buffer v l);
   wayBack = λ s shape v. let w = way-back s shape (state-e s v) .1 in
       (w .session, w .reads, w .loaded, w .current);
   reached = λ bytes s rs b loads. after-reached s (loaded-fresh bytes s loads) rs (loaded-shaped bytes s b loads);

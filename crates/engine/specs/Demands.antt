@@ -1,6 +1,6 @@
 -- The user's three demands, each as one type, over the definitions that the calls' contracts cite. Assumes nothing.
 -- A call of this crate gives what its definition gives: load loadOf, tables tablesOf, pattern_sets patternSetsOf, exchange exchangeOf,
--- verdict verdictOf, write writeOf, counts countsOf.
+-- verdict verdictOf, write writtenOf, counts countsOf.
 use mathlib.Core.Path.{_≡_}
 use mathlib.Core.Logic.{_⊎_, _↔_}
 use mathlib.Core.Bool.{true}
@@ -12,6 +12,7 @@ use Rattle.network.specs.declared.Refusal.{Refusal}
 use Rattle.network.specs.declared.Refusal.the-variants.{Harm}
 use Rattle.network.specs.declared.Answer.the-variants.{Done, Refused}
 use Rattle.network.specs.declared.TablesAnswer.the-variants as tables
+use Rattle.network.specs.declared.WriteAnswer.the-variants as write
 use Rattle.network.specs.Net.{Net, isGate, patterns, Replacement, replaced}
 use Rattle.network.specs.DontCares.{sdc, cdc, full, harms}
 use Rattle.network.specs.Compatible.{compatibleCount, openTable}
@@ -22,8 +23,9 @@ use Rattle.network.specs.Tests.{member}
 use Rattle.network.specs.State.{stateTest}
 use Rattle.network.specs.Load.{loadDone, loadRefused, readOf, opened, loadOf}
 use Rattle.network.specs.Write.{bytesOf}
-use Rattle.network.specs.Calls.{fits, stored, exchangeOf, verdictOf, gateTables, tablesOf, overwritten, setWords, patternSetsOf, writeOf, countsOf, countsFor}
+use Rattle.network.specs.Calls.{fits, stored, exchangeOf, verdictOf, gateTables, tablesOf, overwritten, setWords, patternSetsOf, countsOf, countsFor}
 use Rattle.network.specs.Sessions.{after, Demand3Of, NoHarm, FirstHarm, Rule4Of}
+use Rattle.engine.specs.Written.{writtenOf}
 
 -- ## Demand 1: for every file, buffer, table and session state, a call ends in one of the listed outcomes, or in a numbered refusal
 -- that changes neither state nor lent buffer
@@ -50,10 +52,10 @@ pub record Demand1 : Type 0 where
       → Ends (exchangeOf s r) (record { answer = Done; session = stored s r }) (10 ∷ 11 ∷ 12 ∷ 13 ∷ []) (λ f. record { answer = Refused f; session = s })
   -- a verdict: harmless, or else 14 names the harm
   pub verdict : (s : Session) (r : Replacement) → Ends (verdictOf s r) Done (10 ∷ 11 ∷ 12 ∷ 14 ∷ []) Refused
-  -- a written file; a refusal leaves the buffer
+  -- a written file, with its length; a refusal leaves the buffer
   pub write : (s : Session) (buffer : List ℕ)
-      → Ends (writeOf s buffer) (record { answer = Done; buffer = overwritten (bytesOf s) buffer }) (9 ∷ 10 ∷ [])
-      (λ r. record { answer = Refused r; buffer = buffer })
+      → Ends (writtenOf s buffer) (record { answer = write.Written (length (bytesOf s)); buffer = overwritten (bytesOf s) buffer }) (9 ∷ 10 ∷ [])
+      (λ r. record { answer = write.Refused r; buffer = buffer })
   -- the number of patterns in H of each gate
   pub counts : (s : Session) → Ends (countsOf s) (countsFor Done s) (10 ∷ []) (λ r. countsFor (Refused r) s)
 
@@ -107,7 +109,7 @@ pub record Demand2 : Type 0 where
   pub harmless : (s : Session) (r : Replacement) → Judged s r → (verdictOf s r ≡ Done) ↔ NoHarm (loadedNet s) (lone s r) (patterns (loadedNet s))
   -- a network is written into every buffer that is long enough
   pub written : (s : Session) (buffer : List ℕ) → stateTest s ≡ Done → length (bytesOf s) ≤ length buffer
-      → writeOf s buffer ≡ record { answer = Done; buffer = overwritten (bytesOf s) buffer }
+      → writtenOf s buffer ≡ record { answer = write.Written (length (bytesOf s)); buffer = overwritten (bytesOf s) buffer }
   -- and read again it is the same network
   pub wayBack : (s : Session) → Shaped s → stateTest s ≡ Done
       → (t : Session) × (loadOf (bytesOf s) ≡ loadDone t) × (loadedNet t ≡ currentNet s) × (currentNet t ≡ currentNet s)

@@ -1,14 +1,13 @@
 // The calls of the engine. None has a `requires`: whatever is passed, a call gives what its definition says, refusals included.
 ghost use mathlib.Core.Path.{_≡_};
 ghost use mathlib.Core.List.{[], _∷_};
-ghost use lib.ListN.{length};
 ghost use Rattle.network.specs.declared.Answer.the-variants.{Done};
 ghost use Rattle.network.specs.Flat.{loadedNet};
 ghost use Rattle.network.specs.Tests.{first};
 ghost use Rattle.network.specs.State.{stateFault, stateTest};
 ghost use Rattle.network.specs.Load.{loadOf, loadDone, opened};
-ghost use Rattle.network.specs.Write.{bytesOf};
-ghost use Rattle.network.specs.Calls.{gateTest, exchangeAnswer, exchangeOf, verdictOf, tablesOf, patternSetsOf, writeAnswer, writeOf, countsOf};
+ghost use Rattle.network.specs.Calls.{gateTest, exchangeAnswer, exchangeOf, verdictOf, tablesOf, patternSetsOf, countsOf};
+ghost use Rattle.engine.specs.Written.{writtenOf};
 use network::Answer;
 use network::Counts;
 use network::Exchanged;
@@ -95,7 +94,7 @@ pub fn tables(s: Session, gate: usize) -> TablesAnswer
 
 // The ODC and the compatible set of each gate, gate after gate from the start of the buffer; the words after the last stay.
 pub fn pattern_sets(s: Session, buf: &mut [u64]) -> Answer
-    ensures { λ r. ⌜ (r ≡ patternSetsOf s (now (buf .entry)) .answer) × (now (buf .exit) ≡ patternSetsOf s (now (buf .entry)) .buffer) ⌝ }
+    ensures { λ r. ⌜ record { answer = r; buffer = now (buf .exit) } ≡ patternSetsOf s (now (buf .entry)) ⌝ }
 {
     let v = state::state_test(s);
     if let Answer::Refused(_) = v {
@@ -155,7 +154,7 @@ pub fn load(bytes: &[u8]) -> Loaded
 
 // The file's bytes from the start of the buffer, with the length; the rest of the buffer stays.
 pub fn write(s: Session, buf: &mut [u8]) -> WriteAnswer
-    ensures { λ r. ⌜ (r ≡ writeAnswer (writeOf s (now (buf .entry)) .answer) (length (bytesOf s))) × (now (buf .exit) ≡ writeOf s (now (buf .entry)) .buffer) ⌝ }
+    ensures { λ r. ⌜ record { answer = r; buffer = now (buf .exit) } ≡ writtenOf s (now (buf .entry)) ⌝ }
 {
     let v = state::state_test(s);
     if let Answer::Refused(_) = v {

@@ -7,7 +7,7 @@ ghost use lib.Seq.{sets};
 ghost use Rattle.bits.specs.Range.{every};
 ghost use Rattle.network.specs.Calls.{withCurrent, overwritten};
 ghost use Rattle.netwrite.specs.Laid.{Room};
-ghost use Rattle.packed.specs.Packed.{bytesHeld, wordsHeld, packedOf, Sized, part, sessionIn, unpackOf};
+ghost use Rattle.packed.specs.Packed.{bytesHeld, wordsHeld, packedOf, sessionWords, Sized, part, sessionIn, unpackOf};
 use network::Answer;
 use network::Loaded;
 use network::Refusal;
@@ -15,7 +15,7 @@ use network::Session;
 
 // The words that a session takes.
 pub fn session_words() -> usize
-    ensures { λ r. ⌜ r ≡ 427 ⌝ }
+    ensures { λ r. ⌜ r ≡ sessionWords ⌝ }
 {
     427
 }

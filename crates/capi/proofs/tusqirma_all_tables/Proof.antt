@@ -32,8 +32,7 @@ returns c =
     let t = c .before .before .before .before in
     let u = t .before .before .before in
     let a = u .before .before .before .args in
-    let v = down allTablesWork (a .session .now) [] (a .out .now) (u .unpack .ensures) (t .room .ensures) (c .before .before .a .given .1) (c .number-of .ensures .0) in
-    (v .0, v .2)
+    down allTablesWork (a .session .now) [] (a .out .now) (u .unpack .ensures) (t .room .ensures) (c .before .before .a .given .1) (c .number-of .ensures .0)
 
 enum-told : tie.Need-enum-told
 enum-told c = search needs
@@ -58,8 +57,7 @@ returns-2 c =
     let u = t .before .before .before in
     let a = u .before .before .before .args in
     let x = opens allTablesWork (a .session .now) [] (a .out .now) (u .unpack .ensures) (t .room .ensures) (o .enum-told .given .1) in
-    let v = x .leaves (done (allTablesWork (u .unpack .result .session) .given) [] [] (a .out .now) refl refl (c .before .before .put-tables .ensures)) in
-    (v .0, v .2)
+    x .leaves (done (allTablesWork (u .unpack .result .session) .given) [] [] (a .out .now) refl refl (c .before .before .put-tables .ensures))
 
 pub tusqirma-all-tables-spec : {M : Type 1} → statement M
 tusqirma-all-tables-spec =

@@ -31,8 +31,7 @@ returns c =
     let t = c .before .before .before .before in
     let u = t .before .before .before in
     let a = u .before .before .before .args in
-    let v = down hiddenWork (a .session .now) [] (a .out .now) (u .unpack .ensures) (t .room .ensures) (c .before .before .a .given .1) (c .number-of .ensures .0) in
-    (v .0, v .2)
+    down hiddenWork (a .session .now) [] (a .out .now) (u .unpack .ensures) (t .room .ensures) (c .before .before .a .given .1) (c .number-of .ensures .0)
 
 enum-told : tie.Need-enum-told
 enum-told c = search needs
@@ -77,8 +76,7 @@ returns-2 c =
     let x = opens hiddenWork (a .session .now) [] (a .out .now) (u .unpack .ensures) (t .room .ensures) (k .before .enum-told .given .1) in
     let s = u .unpack .result .session in
     let o = c .before .before .give .ensures ∙ ap (λ (l : List ℕ). overwritten l (a .out .now)) (counts-part s (k .counts .ensures) (x .valid)) in
-    let v = x .leaves (done (hiddenWork s .given) [] [] (a .out .now) refl refl o) in
-    (v .0, v .2)
+    x .leaves (done (hiddenWork s .given) [] [] (a .out .now) refl refl o)
 
 pub tusqirma-hidden-spec : {M : Type 1} → statement M
 tusqirma-hidden-spec =

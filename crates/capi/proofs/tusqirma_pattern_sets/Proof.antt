@@ -1,5 +1,5 @@
 -- `capi::tusqirma_pattern_sets` meets its contract. Assumes nothing.
-use mathlib.Core.Path.{refl, sym, _∙_}
+use mathlib.Core.Path.{refl}
 use mathlib.Core.List.{[], _∷_}
 use lib.ListN.{length}
 use borrow.Author.Needs.{needs}
@@ -27,9 +27,8 @@ unfolding patternSetsCall
 returns c =
     let t = c .before .before .before .before in
     let a = t .before .before .before .args in
-    let v = down (patternSetsWork (a .words .now)) (a .session .now) (a .words .now) [] (t .unpack .ensures) (alone (t .unpack .result .answer))
-    (c .before .before .a .given .1) (c .number-of .ensures .0) in
-    (v .0, v .1)
+    down (patternSetsWork (a .words .now)) (a .session .now) (a .words .now) [] (t .unpack .ensures) (alone (t .unpack .result .answer))
+    (c .before .before .a .given .1) (c .number-of .ensures .0)
 
 enum-told : tie.Need-enum-told
 enum-told c = search needs
@@ -57,9 +56,7 @@ returns-2 c =
     let s = t .unpack .result .session in
     let n = setWords s (s .m) in
     let y = first (stateTest s ∷ roomTest (length n) (a .words .now) ∷ []) in
-    let e = sym (k .pattern-sets .ensures .0) ∙ h .b .given .1 in
-    let v = x .leaves (filled-refused y [] n (a .words .now) [] (k .pattern-sets .ensures .1) (names-filling s (length n) (a .words .now)) e (c .number-of2 .ensures .0)) in
-    (v .0, v .1)
+    x .leaves (filled-refused y [] n (a .words .now) [] (k .pattern-sets .ensures) (names-filling s (length n) (a .words .now)) (h .b .given .1) (c .number-of2 .ensures .0))
 
 enum-told-2 : tie.Need-enum-told-2
 enum-told-2 c = search needs
@@ -77,8 +74,7 @@ returns-3 c =
     let s = t .unpack .result .session in
     let n = setWords s (s .m) in
     let y = first (stateTest s ∷ roomTest (length n) (a .words .now) ∷ []) in
-    let v = x .leaves (filled-done y [] n (a .words .now) [] (k .pattern-sets .ensures .1) (sym (k .pattern-sets .ensures .0) ∙ c .enum-told2 .given .1) refl) in
-    (v .0, v .1)
+    x .leaves (filled-done y [] n (a .words .now) [] (k .pattern-sets .ensures) (c .enum-told2 .given .1) refl)
 
 pub tusqirma-pattern-sets-spec : {M : Type 1} → statement M
 tusqirma-pattern-sets-spec =

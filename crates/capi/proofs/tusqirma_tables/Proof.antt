@@ -24,8 +24,7 @@ unfolding tablesCall
 returns c =
     let t = c .before .before .before .before in
     let a = t .before .before .before .before .args in
-    let v = down (tablesWork (a .gate)) (a .session .now) [] (a .out .now) (t .before .unpack .ensures) (t .room .ensures) (c .before .before .a .given .1) (c .number-of .ensures .0) in
-    (v .0, v .2)
+    down (tablesWork (a .gate)) (a .session .now) [] (a .out .now) (t .before .unpack .ensures) (t .room .ensures) (c .before .before .a .given .1) (c .number-of .ensures .0)
 
 enum-told : tie.Need-enum-told
 enum-told c = search needs
@@ -63,9 +62,8 @@ returns-2 c =
     let t = k .before .before .before in
     let a = t .before .before .before .before .args in
     let x = opens (tablesWork (a .gate)) (a .session .now) [] (a .out .now) (t .before .unpack .ensures) (t .room .ensures) (k .before .enum-told .given .1) in
-    let v = x .leaves (tables-given (t .before .unpack .result .session) (a .gate) (a .out .now) (x .valid) (k .tables .ensures) (h .t .given .1)
-    (c .before .before .give .ensures)) in
-    (v .0, v .2)
+    x .leaves (tables-given (t .before .unpack .result .session) (a .gate) (a .out .now) (x .valid) (k .tables .ensures) (h .t .given .1)
+    (c .before .before .give .ensures))
 
 returns-3 : tie.Need-returns-3
 unfolding tablesCall
@@ -75,8 +73,7 @@ returns-3 c =
     let t = k .before .before .before in
     let a = t .before .before .before .before .args in
     let x = opens (tablesWork (a .gate)) (a .session .now) [] (a .out .now) (t .before .unpack .ensures) (t .room .ensures) (k .before .enum-told .given .1) in
-    let v = x .leaves (tables-refused (t .before .unpack .result .session) (a .gate) (a .out .now) (x .valid) (k .tables .ensures) (h .r .given .1) (c .number-of2 .ensures .0)) in
-    (v .0, v .2)
+    x .leaves (tables-refused (t .before .unpack .result .session) (a .gate) (a .out .now) (x .valid) (k .tables .ensures) (h .r .given .1) (c .number-of2 .ensures .0))
 
 pub tusqirma-tables-spec : {M : Type 1} → statement M
 tusqirma-tables-spec =

@@ -29,8 +29,7 @@ returns c =
     let t = c .before .before .before .before in
     let a = t .before .before .before .before .args in
     let r : Replacement = record { signal = a .gate; table = a .table } in
-    let v = down (verdictWork r) (a .session .now) [] (a .out .now) (t .before .unpack .ensures) (t .room .ensures) (c .before .before .a .given .1) (c .number-of .ensures .0) in
-    (v .0, v .2)
+    down (verdictWork r) (a .session .now) [] (a .out .now) (t .before .unpack .ensures) (t .room .ensures) (c .before .before .a .given .1) (c .number-of .ensures .0)
 
 enum-told : tie.Need-enum-told
 enum-told c = search needs
@@ -69,9 +68,8 @@ returns-2 c =
     let a = t .before .before .before .before .args in
     let r : Replacement = record { signal = a .gate; table = a .table } in
     let x = opens (verdictWork r) (a .session .now) [] (a .out .now) (t .before .unpack .ensures) (t .room .ensures) (k .before .enum-told .given .1) in
-    let v = x .leaves (judged-refused [] [] (a .out .now) (k .verdict .ensures) (h .v .given .1)
-    (g .tell-refusal .ensures .0) (g .tell-refusal .ensures .1)) in
-    (v .0, v .2)
+    x .leaves (judged-refused [] [] (a .out .now) (k .verdict .ensures) (h .v .given .1)
+    (g .tell-refusal .ensures .0) (g .tell-refusal .ensures .1))
 
 enum-told-2 : tie.Need-enum-told-2
 enum-told-2 c = search needs
@@ -84,8 +82,7 @@ returns-3 c =
     let a = t .before .before .before .before .args in
     let r : Replacement = record { signal = a .gate; table = a .table } in
     let x = opens (verdictWork r) (a .session .now) [] (a .out .now) (t .before .unpack .ensures) (t .room .ensures) (k .before .enum-told .given .1) in
-    let v = x .leaves (judged-done [] [] (a .out .now) (k .verdict .ensures) (c .enum-told2 .given .1) refl) in
-    (v .0, v .2)
+    x .leaves (judged-done [] [] (a .out .now) (k .verdict .ensures) (c .enum-told2 .given .1) refl)
 
 pub tusqirma-verdict-spec : {M : Type 1} → statement M
 tusqirma-verdict-spec =

@@ -6,6 +6,7 @@ use Rattle.network.specs.Tests.{first}
 use Rattle.network.specs.State.{stateTest}
 use Rattle.network.specs.Write.{bytesOf}
 use Rattle.network.specs.Calls.{roomTest, writeOf}
+use Rattle.engine.specs.Written.{writtenOf}
 use Rattle.capi.specs.Boundary.{writeWork, writeCall}
 use Rattle.capi.proofs.Laws.{down, opens}
 use Rattle.capi.proofs.Answers.{written, unwritten, names-filling}
@@ -63,7 +64,7 @@ same-length-2 : tie.Need-same-length-2
 same-length-2 c = search needs
 
 returns-2 : tie.Need-returns-2
-unfolding writeCall writeOf
+unfolding writeCall writeOf writtenOf
 returns-2 c =
     let h = c .before .before .before .before .before .before in
     let k = h .before .before .before .before in
@@ -73,13 +74,13 @@ returns-2 c =
     let s = t .before .unpack .result .session in
     let y = first (stateTest s ∷ roomTest (length (bytesOf s)) (a .file .now) ∷ []) in
     x .leaves (written y (bytesOf s) (a .file .now) (a .out .now)
-    (k .write .ensures .0) (k .write .ensures .1) (h .n .given .1) (c .before .before .give .ensures))
+    (k .write .ensures) (h .n .given .1) (c .before .before .give .ensures))
 
 same-length-3 : tie.Need-same-length-3
 same-length-3 c = search needs
 
 returns-3 : tie.Need-returns-3
-unfolding writeCall writeOf
+unfolding writeCall writeOf writtenOf
 returns-3 c =
     let h = c .before .before in
     let k = h .before .before .before .before in
@@ -90,7 +91,7 @@ returns-3 c =
     let y = first (stateTest s ∷ roomTest (length (bytesOf s)) (a .file .now) ∷ []) in
     let n = names-filling s (length (bytesOf s)) (a .file .now) in
     x .leaves (unwritten y (bytesOf s) (a .file .now) (a .out .now)
-    (k .write .ensures .0) (k .write .ensures .1) n (h .r .given .1) (c .number-of2 .ensures .0))
+    (k .write .ensures) n (h .r .given .1) (c .number-of2 .ensures .0))
 
 pub tusqirma-write-spec : {M : Type 1} → statement M
 tusqirma-write-spec =

@@ -22,7 +22,7 @@ returns c =
     let t = c .before .before in
     let a = t .before .before .args in
     let e = filling-invalid (a .s) (setWords (a .s) (a .s .m)) (a .buf .now) (sym (t .state-test .ensures) ∙ c .enum-told .given .1) in
-    (c .enum-told .given .1 ∙ rw e, rw e)
+    rw (e, c .enum-told .given .1)
 
 enum-told-2 : tie.Need-enum-told-2
 enum-told-2 c = search needs
@@ -40,7 +40,7 @@ returns-2 c =
     let a = t .before .before .args in
     let h : length (a .buf .now) < length (setWords (a .s) (a .s .m)) = omega (arith, c .before .words-needed .ensures) in
     let e = filling-short (a .s) (setWords (a .s) (a .s .m)) (a .buf .now) (sym (t .state-test .ensures) ∙ k .enum-told2 .given .1) h in
-    (rw e, rw e)
+    sym e
 
 fill-requires : tie.Need-fill-requires
 fill-requires c κs =
@@ -62,7 +62,7 @@ returns-3 c =
     let a = t .before .before .args in
     let h : length (setWords (a .s) (a .s .m)) ≤ length (a .buf .now) = omega (arith, b .words-needed .ensures) in
     let e = filling-done (a .s) (setWords (a .s) (a .s .m)) (a .buf .now) (sym (t .state-test .ensures) ∙ k .enum-told2 .given .1) h in
-    (rw e, w .fill .ensures ∙ rw e)
+    rw (e, w .fill .ensures)
 
 pub pattern-sets-spec : {M : Type 1} → statement M
 pattern-sets-spec =
