@@ -40,9 +40,6 @@ int question_test(const Network *loaded, const Network *current, int gate, uint6
 /* sets a gate's table in `current`, with the tests 10 to 13 */
 Answer exchange(const Network *loaded, Network *current, const Sets *sets, int gate, uint64_t table);
 
-/* the fan-ins that rule 6 frees at entry t, as bits */
-unsigned free_fanins(int k, unsigned table, unsigned t);
-
 static inline unsigned all_entries(int k) { return (1u << (1 << k)) - 1; }
 static inline int word_count(int n) { return n < 6 ? 1 : 1 << (n - 6); }
 static inline uint64_t live_places(int n) { return n < 6 ? ((uint64_t)1 << (1 << n)) - 1 : ~(uint64_t)0; }

@@ -1,4 +1,4 @@
-/* What both baselines share: the file, the tests of a state, the exchange, rule 6 at one entry. */
+/* What both baselines share: the file, the tests of a state, the exchange. */
 #include "baseline.h"
 
 static int gate_fault(const Network *net, int g) {
@@ -105,16 +105,4 @@ Answer exchange(const Network *loaded, Network *current, const Sets *sets, int g
     if (altered) return (Answer){13, __builtin_ctzll(altered), 0};
     current->tables[g] = (unsigned)table;
     return (Answer){0, 0, 0};
-}
-
-unsigned free_fanins(int k, unsigned table, unsigned t) {
-    unsigned free = 0;
-    for (int r = 0; r < k; r++) {
-        unsigned more = free | 1u << r;
-        int constant = 1;
-        for (unsigned u = 0; u < 1u << k; u++)
-            if ((u & ~more) == (t & ~more) && ((table >> u ^ table >> t) & 1)) constant = 0;
-        if (constant) free = more;
-    }
-    return free;
 }

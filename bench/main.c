@@ -100,13 +100,17 @@ static void base_tables(const Baseline *b, Case *c) {
     if (state_test(&c->loaded, &c->current)) die("state");
     b->dont_cares(&c->current, &c->sets);
 }
-/* without the text */
+/* without the text and the counts */
 static void base_listing(const Baseline *b, Case *c) {
     base_load(b, c);
     base_tables(b, c);
 }
 static void our_sets(Case *c) {
     if (tusqirma_pattern_sets(c->session, SESSION, c->out, 2 * GATES * WORDS)) die("sets");
+}
+static void base_sets(const Baseline *b, Case *c) {
+    base_tables(b, c);
+    b->compatible(&c->loaded, &c->sets);
 }
 static void our_verdict(Case *c) {
     uint64_t n = tusqirma_verdict(c->session, SESSION, (size_t)c->gate, c->table, c->out, 2);
@@ -153,9 +157,10 @@ typedef struct {
 } Task;
 
 static const Task TASKS[] = {
-    {"listing: all of a file", any, our_listing, base_listing},
-    {"load: compatible sets, open tables", any, our_load, base_load},
-    {"all tables: CDC, ODC, full", any, our_tables, base_tables},
+    {"listing: CDC, full, open, counts of a file", any, our_listing, base_listing},
+    {"load: a session with its open tables", any, our_load, base_load},
+    {"all tables: SDC, CDC, full, open", any, our_tables, base_tables},
+    {"pattern sets: words of ODC and compatible sets", any, our_sets, base_sets},
     {"verdict, harmless", harmless, our_verdict, base_verdict},
     {"verdict, harmful", harmful, our_verdict, base_verdict},
     {"exchange, accepted", allowed, our_exchange, base_exchange},

@@ -42,6 +42,19 @@ static void dont_cares(const Network *net, Sets *sets) {
     }
 }
 
+/* the fan-ins that rule 6 frees at entry t, as bits */
+static unsigned free_fanins(int k, unsigned table, unsigned t) {
+    unsigned free = 0;
+    for (int r = 0; r < k; r++) {
+        unsigned more = free | 1u << r;
+        int constant = 1;
+        for (unsigned u = 0; u < 1u << k; u++)
+            if ((u & ~more) == (t & ~more) && ((table >> u ^ table >> t) & 1)) constant = 0;
+        if (constant) free = more;
+    }
+    return free;
+}
+
 /* whether each signal's compatible set holds the pattern */
 static void hidden_at(const Network *net, int x, const uint8_t *values, uint8_t *hidden) {
     memset(hidden, 1, SIGNALS);

@@ -45,6 +45,7 @@ enum tusqirma_refusal {
     TUSQIRMA_TRAILING_BYTES = 8,    /* bytes after the last record */
     /* the buffers */
     TUSQIRMA_BUFFER_TOO_SHORT = 9,  /* a buffer shorter than the words or bytes needed */
+    /* the maker of a state */
     TUSQIRMA_INVALID_STATE = 10,    /* session words that hold no network: see the session's words below */
     /* the session's user */
     TUSQIRMA_NOT_A_GATE = 11,       /* no gate has that signal number */

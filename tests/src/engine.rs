@@ -142,16 +142,24 @@ fn lay_with_length(lent: &mut Lent, bytes: &[u8]) {
 /// The path of the listing program.
 pub static LISTING: OnceLock<String> = OnceLock::new();
 
+/// The answer of a run that fails or prints to its standard error: no call returns it.
+const FAILED: u64 = u64::MAX;
+
 /// The listing of a file by the program, which reads it from its standard input.
 fn program_call(_: Call, lent: &mut Lent) -> u64 {
     let mut child = Command::new(LISTING.get().expect("the first argument"))
         .stdin(Stdio::piped())
         .stdout(Stdio::piped())
+        .stderr(Stdio::piped())
         .spawn()
         .expect("the program starts");
     // the program reads no more than it needs, so the pipe may close early
     let _ = child.stdin.take().expect("piped").write_all(&lent.file);
-    let text = child.wait_with_output().expect("the program ends").stdout;
-    lay_with_length(lent, &text);
-    0
+    let output = child.wait_with_output().expect("the program ends");
+    lay_with_length(lent, &output.stdout);
+    if output.status.success() && output.stderr.is_empty() {
+        0
+    } else {
+        FAILED
+    }
 }

@@ -11,6 +11,7 @@ mod c;
 mod call;
 mod damage;
 mod engine;
+mod example;
 mod files;
 mod networks;
 mod random;
@@ -37,6 +38,7 @@ fn main() {
     println!("seed {seed}, {count} networks");
     let mut report = Report::default();
     report.part("C program", c::compare);
+    report.part("binding's example", example::compare);
     report.part("edges", files::edges);
     report.part("order of a file's tests", files::order);
     report.part("damaged files", |r| files::damaged(r, seed, count));

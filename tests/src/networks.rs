@@ -37,29 +37,29 @@ fn compare_file(report: &mut Report, case: &Case) {
 
 /// Each number of inputs, outputs and fan-ins, one gate and forty, and each kind of excluded set have to have been met.
 fn bounds(report: &mut Report, met: &[Network]) {
-    let mut require = |what: String, holds: &dyn Fn(&Network) -> bool| {
-        report.require(&what, met.iter().any(holds));
+    let mut require = |what: &str, holds: &dyn Fn(&Network) -> bool| {
+        report.require(what, met.iter().any(holds));
     };
-    for c in 1..=10 {
-        require(format!("n {c}"), &|s| s.n == c);
-    }
-    for c in [1, 40] {
-        require(format!("m {c}"), &|s| s.m() == c);
-    }
-    for c in 1..=8 {
-        require(format!("p {c}"), &|s| s.outputs.len() == c);
-    }
-    for c in 1..=4 {
-        require(format!("k {c}"), &|s| s.fanins.iter().any(|f| f.len() == c));
-    }
-    let share = |s: &Network| s.excluded.iter().filter(|&&one| one).count() * 4 / s.patterns();
-    require("n 10 and m 40".into(), &|s| s.n == 10 && s.m() == 40);
-    require("an empty excluded set".into(), &|s| {
-        !s.excluded.contains(&true)
+    (1..=10).for_each(|c| require(&format!("n {c}"), &|s| s.n == c));
+    [1, 40]
+        .iter()
+        .for_each(|&c| require(&format!("m {c}"), &|s| s.m() == c));
+    (1..=8).for_each(|c| require(&format!("p {c}"), &|s| s.outputs.len() == c));
+    (1..=4).for_each(|c| require(&format!("k {c}"), &|s| has_arity(s, c)));
+    require("n 10 and m 40", &|s| s.n == 10 && s.m() == 40);
+    let quarters = |s: &Network| excluded_count(s) * 4 / s.patterns();
+    require("an empty excluded set", &|s| excluded_count(s) == 0);
+    require("a sparse excluded set", &|s| {
+        excluded_count(s) > 0 && quarters(s) == 0
     });
-    require("a sparse excluded set".into(), &|s| {
-        s.excluded.contains(&true) && share(s) == 0
-    });
-    require("a dense excluded set".into(), &|s| share(s) == 3);
-    require("a full excluded set".into(), &|s| share(s) == 4);
+    require("a dense excluded set", &|s| quarters(s) == 3);
+    require("a full excluded set", &|s| quarters(s) == 4);
+}
+
+fn has_arity(s: &Network, k: usize) -> bool {
+    s.fanins.iter().any(|f| f.len() == k)
+}
+
+fn excluded_count(s: &Network) -> usize {
+    s.excluded.iter().filter(|&&one| one).count()
 }

@@ -68,15 +68,18 @@ pub fn network_of(rng: &mut Random, n: usize, m: usize) -> Vec<u8> {
         }
         file.extend(&record);
     }
-    for _ in 0..p {
-        let low = if rng.chance(4) {
-            0
-        } else {
-            (n + m).saturating_sub(p + 2)
-        };
-        file.extend([0x4E, 0x4F, rng.within(low, n + m - 1) as u8]);
-    }
+    file.extend((0..p).flat_map(|_| output(rng, n + m, p)));
     file
+}
+
+/// The record of one of p outputs: mostly a late signal.
+fn output(rng: &mut Random, signals: usize, p: usize) -> [u8; 3] {
+    let low = if rng.chance(4) {
+        0
+    } else {
+        signals.saturating_sub(p + 2)
+    };
+    [0x4E, 0x4F, rng.within(low, signals - 1) as u8]
 }
 
 /// The record of a gate with so many signals before it.

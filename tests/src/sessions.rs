@@ -1,10 +1,10 @@
 //! Lists of exchanges, refused ones included, with verdicts and other calls between them: every answer, every word of the
-//! session after it, and what 01 says of the whole list.
+//! session after it, and what 01 says of the whole list, as the library runs it.
 
 use crate::call::{Call, Lent, Way};
 use crate::engine::{BINDING, RAW};
 use crate::random::{self, Random};
-use crate::reference::{self, State};
+use crate::reference::{self, State, WORDS};
 use crate::report::{differs, outcome, Case, Report};
 use crate::users::calls;
 
@@ -13,25 +13,28 @@ const WAYS: [Way; 2] = [RAW, BINDING];
 pub fn compare(report: &mut Report, seed: u64, cases: usize) {
     for i in 0..cases {
         let mut rng = Random::new(seed, report.name(), i);
-        let mut case = Case::new(i, &random::network(&mut rng, i));
-        let (_, loaded) = report.compare(&WAYS, Call::Load, &Lent::file(&case.file), &case);
-        let fresh = State::read(&loaded.session).expect("a random network loads");
-        let list = calls(&mut rng, &fresh);
-        let course = Course::run(&fresh, &list);
-        report.passed += course.passed;
-        for answer in course.answers {
-            report.meet(answer);
-        }
-        if let Some(fault) = course.fault {
-            let (list, fault) = match report.smaller(case.size()) {
-                true => shrunk(&fresh, list, fault),
-                false => (list, fault),
-            };
-            case.before = list.iter().map(|call| format!("{call:?}")).collect();
-            report.count(case.size(), Some(format!("{case}{fault}")));
-        }
+        let case = Case::new(i, &random::network(&mut rng, i));
+        compare_list(report, rng, case);
     }
     report.require_answers([0, 11, 12, 13, 14]);
+}
+
+/// A random list of calls on the case's network.
+fn compare_list(report: &mut Report, mut rng: Random, mut case: Case) {
+    let (_, loaded) = report.compare(&WAYS, Call::Load, &Lent::file(&case.file), &case);
+    let fresh = State::read(&loaded.session).expect("a random network loads");
+    let list = calls(&mut rng, &fresh);
+    let course = Course::run(&case.file, &fresh, &list);
+    report.passed += course.passed;
+    course.answers.iter().for_each(|&a| report.meet(a));
+    if let Some(fault) = course.fault {
+        let (list, fault) = match report.smaller(case.size()) {
+            true => shrunk(&case.file, &fresh, list, fault),
+            false => (list, fault),
+        };
+        case.before = list.iter().map(|call| format!("{call:?}")).collect();
+        report.count(case.size(), Some(format!("{case}{fault}")));
+    }
 }
 
 /// How a list of calls went, up to the first thing that is wrong.
@@ -43,24 +46,34 @@ struct Course {
 }
 
 impl Course {
-    fn run(fresh: &State, list: &[Call]) -> Course {
+    fn run(file: &[u8], fresh: &State, list: &[Call]) -> Course {
         let mut course = Course::default();
-        let mut words = fresh.words();
-        for &call in list {
-            let lent = Lent::session(&words);
-            let (number, after) = outcome(call, &lent);
-            for way in &WAYS {
-                course.note(differs(way, call, &lent, number, &after));
-            }
-            course.answers.push(number);
-            words = after.session;
-        }
+        let step = |words: Vec<u64>, &call: &Call| course.step(&words, call);
+        list.iter().fold(fresh.words(), step);
         if course.fault.is_none() {
-            for holds in [outputs_kept, last_accepted, written_again, swapped] {
-                course.note(holds(fresh, list, &course.answers, &words));
-            }
+            course.whole(file, fresh, list);
         }
         course
+    }
+
+    /// One call by each way. Gives the session after it by 01.
+    fn step(&mut self, words: &[u64], call: Call) -> Vec<u64> {
+        let lent = Lent::session(words);
+        let (number, after) = outcome(call, &lent);
+        for way in &WAYS {
+            self.note(differs(way, call, &lent, number, &after));
+        }
+        self.answers.push(number);
+        after.session
+    }
+
+    /// What 01 says of the whole list, held against the library's own run of it.
+    fn whole(&mut self, file: &[u8], fresh: &State, list: &[Call]) {
+        let run = Run::new(file, list);
+        self.note(outputs_kept(fresh, &run));
+        self.note(last_accepted(fresh, list, &run));
+        self.note(written_again(&run));
+        self.note(swapped(file, list));
     }
 
     fn note(&mut self, difference: Option<String>) {
@@ -72,12 +85,40 @@ impl Course {
     }
 }
 
+/// The library's run of a list: the answers, each with `out`, and the session's words after the list.
+struct Run {
+    answers: Vec<(u64, Vec<u64>)>,
+    words: Vec<u64>,
+}
+
+impl Run {
+    /// Loads the file; then each call gets the session that the one before left.
+    fn new(file: &[u8], list: &[Call]) -> Run {
+        let mut loaded = Lent::file(file);
+        (RAW.run)(Call::Load, &mut loaded);
+        let mut words = loaded.session[..WORDS].to_vec();
+        let mut answers = Vec::new();
+        for &call in list {
+            let mut lent = Lent::session(&words);
+            let number = (RAW.run)(call, &mut lent);
+            answers.push((number, lent.out));
+            words = lent.session;
+        }
+        Run { answers, words }
+    }
+}
+
 /// The list without the calls that its fault does not need.
-fn shrunk(fresh: &State, mut list: Vec<Call>, mut fault: String) -> (Vec<Call>, String) {
+fn shrunk(
+    file: &[u8],
+    fresh: &State,
+    mut list: Vec<Call>,
+    mut fault: String,
+) -> (Vec<Call>, String) {
     for at in (0..list.len()).rev() {
         let mut shorter = list.clone();
         shorter.remove(at);
-        if let Some(other) = Course::run(fresh, &shorter).fault {
+        if let Some(other) = Course::run(file, fresh, &shorter).fault {
             (list, fault) = (shorter, other);
         }
     }
@@ -85,52 +126,53 @@ fn shrunk(fresh: &State, mut list: Vec<Call>, mut fault: String) -> (Vec<Call>, 
 }
 
 /// Every output on every pattern not excluded is that of the loaded network.
-fn outputs_kept(fresh: &State, _: &[Call], _: &[u64], words: &[u64]) -> Option<String> {
-    let now = State::read(words).expect("a session in use");
+fn outputs_kept(fresh: &State, run: &Run) -> Option<String> {
+    let Ok(now) = State::read(&run.words) else {
+        return Some("the words left hold no network".into());
+    };
     let harm = fresh.loaded.harm(&now.current);
     harm.map(|(x, i)| format!("output {i} changed at pattern {x}"))
 }
 
 /// Each gate has the table of its last accepted exchange, or the loaded one; all else is as loaded.
-fn last_accepted(fresh: &State, list: &[Call], answers: &[u64], words: &[u64]) -> Option<String> {
+fn last_accepted(fresh: &State, list: &[Call], run: &Run) -> Option<String> {
     let mut due = fresh.clone();
-    for (call, &answer) in list.iter().zip(answers) {
-        if let (Call::Exchange { gate, table }, 0) = (call, answer) {
+    for (call, (number, _)) in list.iter().zip(&run.answers) {
+        if let (Call::Exchange { gate, table }, 0) = (call, number) {
             due.current.tables[gate - fresh.loaded.n] = *table;
         }
     }
-    (due.words() != words).then(|| "not the tables last accepted".into())
+    (due.words() != run.words).then(|| "not the tables last accepted".into())
 }
 
 /// The network, written and loaded again, is the same network.
-fn written_again(_: &State, _: &[Call], _: &[u64], words: &[u64]) -> Option<String> {
-    let now = State::read(words).expect("a session in use");
-    let mut lent = Lent::session(words);
+fn written_again(run: &Run) -> Option<String> {
+    let now = State::read(&run.words).map(|s| s.current);
+    let mut lent = Lent::session(&run.words);
     (RAW.run)(Call::Write, &mut lent);
     let file = &lent.bytes[..lent.out[0] as usize];
     let mut again = Lent::file(file);
     (RAW.run)(Call::Load, &mut again);
     let read = State::read(&again.session).map(|s| s.loaded);
-    let same = reference::load(file) == Ok(now.current.clone()) && read == Ok(now.current);
+    let same = reference::load(file) == now && read == now;
     (!same).then(|| "written and loaded again, another network".into())
 }
 
 /// Exchanges that follow each other at different gates may be swapped: each has the same answer, and the session is the same.
-fn swapped(fresh: &State, list: &[Call], _: &[u64], _: &[u64]) -> Option<String> {
+fn swapped(file: &[u8], list: &[Call]) -> Option<String> {
     let is_exchange = |call: &Call| gate_of(call).is_some();
     let exchanges: Vec<Call> = list.iter().copied().filter(is_exchange).collect();
-    let mut other = exchanges.clone();
     let mut places: Vec<usize> = (0..exchanges.len()).collect();
     for at in (1..exchanges.len()).step_by(2) {
         if gate_of(&exchanges[at]) != gate_of(&exchanges[at - 1]) {
-            other.swap(at - 1, at);
             places.swap(at - 1, at);
         }
     }
-    let (answers, words) = exchange_all(fresh, &exchanges);
-    let (others, same) = exchange_all(fresh, &other);
-    let moved: Vec<_> = places.iter().map(|&at| answers[at].clone()).collect();
-    (moved != others || words != same).then(|| "swapped exchanges differ".into())
+    let other: Vec<Call> = places.iter().map(|&at| exchanges[at]).collect();
+    let (one, two) = (Run::new(file, &exchanges), Run::new(file, &other));
+    let moved: Vec<_> = places.iter().map(|&at| one.answers[at].clone()).collect();
+    let same = moved == two.answers && one.words == two.words;
+    (!same).then(|| "swapped exchanges differ".into())
 }
 
 fn gate_of(call: &Call) -> Option<usize> {
@@ -138,17 +180,4 @@ fn gate_of(call: &Call) -> Option<usize> {
         Call::Exchange { gate, .. } => Some(*gate),
         _ => None,
     }
-}
-
-/// The answers, with `out`, and the session after the list.
-fn exchange_all(fresh: &State, list: &[Call]) -> (Vec<(u64, Vec<u64>)>, Vec<u64>) {
-    let mut words = fresh.words();
-    let mut answers = Vec::new();
-    for &call in list {
-        let mut lent = Lent::new(&words, &[], 0, 1);
-        let number = (RAW.run)(call, &mut lent);
-        answers.push((number, lent.out));
-        words = lent.session;
-    }
-    (answers, words)
 }

@@ -14,30 +14,19 @@ pub fn compare(report: &mut Report, seed: u64, cases: usize) {
     report.require("427 words", words == [WORDS; 2]);
     for i in 0..cases {
         let mut rng = Random::new(seed, report.name(), i);
-        // every length of a small network's buffers, and some lengths of any network's
         let every = i % 4 > 0;
         let file = match every {
             true => random::network_of(&mut rng, i % 4, 3),
             false => random::network(&mut rng, i / 4),
         };
-        let state = State::fresh(reference::load(&file).expect("a random network loads"));
-        let list = calls(&mut rng, &state);
-        let more: Vec<Call> = (0..8).flat_map(|_| calls(&mut rng, &state)).collect();
+        let case = Case::new(i, &file);
         let mut short = Short {
             report,
             rng,
-            case: Case::new(i, &file),
+            case,
             every,
         };
-        let session = Lent::session(&state.words());
-        for &call in &list {
-            short.session(call, &state);
-        }
-        for call in list.into_iter().chain(more.into_iter().filter(judges)) {
-            short.others(call, &session, &state);
-        }
-        short.others(Call::Listing, &Lent::file(&file), &state);
-        short.load();
+        short.compare();
     }
     report.require_answers((0..=9).chain(11..=14));
 }
@@ -63,6 +52,7 @@ fn needed(call: Call, s: &State, file: &[u8]) -> (usize, usize) {
     }
 }
 
+/// The buffers of one case: every length, as of a small network, or some.
 struct Short<'a> {
     report: &'a mut Report,
     rng: Random,
@@ -71,6 +61,22 @@ struct Short<'a> {
 }
 
 impl Short<'_> {
+    fn compare(&mut self) {
+        let file = self.case.file.clone();
+        let state = State::fresh(reference::load(&file).expect("a random network loads"));
+        let list = calls(&mut self.rng, &state);
+        let more = (0..8).flat_map(|_| calls(&mut self.rng, &state));
+        let more: Vec<Call> = more.filter(judges).collect();
+        let session = Lent::session(&state.words());
+        list.iter().for_each(|&call| self.session(call, &state));
+        for &call in list.iter().chain(&more) {
+            self.others(call, &session, &state);
+        }
+        self.others(Call::Listing, &Lent::file(&file), &state);
+        self.load(&file);
+        self.load_damaged(&file);
+    }
+
     /// The lengths to try of a buffer that needs so many elements.
     fn lengths(&mut self, needed: usize) -> Vec<usize> {
         let mut lengths: Vec<usize> = if self.every || needed < 3 {
@@ -97,14 +103,11 @@ impl Short<'_> {
     /// `out` and `bytes`, one at a time.
     fn others(&mut self, call: Call, lent: &Lent, s: &State) {
         let (bytes, out) = needed(call, s, &lent.file);
-        for length in self.lengths(out) {
-            let lent = Lent::new(&lent.session, &lent.file, ROOM, length);
-            self.expect(call, &lent, length < out);
-        }
-        for length in self.lengths(bytes) {
-            let lent = Lent::new(&lent.session, &lent.file, length, out);
-            self.expect(call, &lent, length < bytes);
-        }
+        let with = |bytes, out| Lent::new(&lent.session, &lent.file, bytes, out);
+        let lengths = self.lengths(out).into_iter();
+        lengths.for_each(|length| self.expect(call, &with(ROOM, length), length < out));
+        let lengths = self.lengths(bytes).into_iter();
+        lengths.for_each(|length| self.expect(call, &with(length, out), length < bytes));
     }
 
     /// A session cut short is 9, whatever it holds and however short the others are; words behind it stay.
@@ -125,15 +128,17 @@ impl Short<'_> {
         }
     }
 
-    /// Load tests the file first, then the session's length.
-    fn load(&mut self) {
-        let file = self.case.file.clone();
+    fn load(&mut self, file: &[u8]) {
         for length in self.lengths(WORDS) {
-            let lent = Lent::new(&filling(length), &file, 0, 0);
+            let lent = Lent::new(&filling(length), file, 0, 0);
             self.expect(Call::Load, &lent, length < WORDS);
         }
+    }
+
+    /// Load tests the file first, then the session's length.
+    fn load_damaged(&mut self, file: &[u8]) {
         for number in 1..=8 {
-            if let Some(bad) = damage::targeted(&mut self.rng, &file, number) {
+            if let Some(bad) = damage::targeted(&mut self.rng, file, number) {
                 let length = self.rng.within(0, WORDS - 1);
                 self.expect(Call::Load, &Lent::new(&filling(length), &bad, 0, 0), false);
             }

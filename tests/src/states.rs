@@ -1,6 +1,6 @@
 //! Session words made by hand: what each call answers, and that a refused one leaves all that is lent as it was.
 
-use crate::alterations::ALTERATIONS;
+use crate::alterations::{Alteration, ALTERATIONS};
 use crate::call::{Call, Lent, ROOM};
 use crate::engine::{BINDING, RAW};
 use crate::random::{self, Random};
@@ -17,31 +17,36 @@ pub fn compare(report: &mut Report, seed: u64, cases: usize) {
             0 => random::network(&mut rng, i / kinds),
             _ => random::small_network(&mut rng),
         };
-        let state = State::fresh(load(&file).expect("a random network loads"));
-        let (alteration, mut words) = (&ALTERATIONS[i % kinds], state.words());
-        if !(alteration.alter)(&mut rng, &state, &mut words) {
-            continue;
-        }
-        met[i % kinds] = true;
-        let changed = changes(&state.words(), &words);
-        let case = Case::new(i, &file).after(format!("{}: {changed}", alteration.what));
-        for call in calls(&mut rng, &state) {
-            let room = Lent::session(&words);
-            let scarce = Lent::new(&words, &[], rng.within(0, ROOM), rng.within(0, 6));
-            let answers = [
-                report.compare(&[RAW, BINDING], call, &room, &case).0,
-                report.compare(&[RAW], call, &scarce, &case).0,
-            ];
-            let due = |answer: &u64| alteration.refused.is_none_or(|r| r == (*answer == 10));
-            let wrong = !answers.iter().all(due);
-            let text = || format!("{case}{call:?}: {answers:?}");
-            report.count(case.size(), wrong.then(text));
-        }
+        let altered = compare_altered(report, rng, &ALTERATIONS[i % kinds], Case::new(i, &file));
+        met[i % kinds] |= altered;
     }
-    for (alteration, met) in ALTERATIONS.iter().zip(met) {
-        report.require(alteration.what, met);
-    }
+    let each = ALTERATIONS.iter().zip(met);
+    each.for_each(|(alteration, met)| report.require(alteration.what, met));
     report.require_answers([0, 9, 10, 11, 12, 13, 14]);
+}
+
+/// The calls on the case's session, altered; false where it has no place for that.
+fn compare_altered(report: &mut Report, mut rng: Random, how: &Alteration, case: Case) -> bool {
+    let state = State::fresh(load(&case.file).expect("a random network loads"));
+    let mut words = state.words();
+    if !(how.alter)(&mut rng, &state, &mut words) {
+        return false;
+    }
+    let changed = changes(&state.words(), &words);
+    let case = case.after(format!("{}: {changed}", how.what));
+    for call in calls(&mut rng, &state) {
+        let room = Lent::session(&words);
+        let scarce = Lent::new(&words, &[], rng.within(0, ROOM), rng.within(0, 6));
+        let answers = [
+            report.compare(&[RAW, BINDING], call, &room, &case).0,
+            report.compare(&[RAW], call, &scarce, &case).0,
+        ];
+        let due = |answer: &u64| how.refused.is_none_or(|r| r == (*answer == 10));
+        let wrong = !answers.iter().all(due);
+        let text = || format!("{case}{call:?}: {answers:?}");
+        report.count(case.size(), wrong.then(text));
+    }
+    true
 }
 
 /// Which words were altered, and to what.

@@ -5,14 +5,8 @@
 //!
 //! May gates 1 and 2 of this network both be set to table 0? Both copy input 0, and gate 3 is their OR:
 //!
-//! ```text
-//! use tusqirma::{Refusal, Session};
-//!
-//! let mut session = Session::load(&file)?;
-//! session.verdict(2, 0)?;                        // harmless alone
-//! session.exchange(1, 0)?;                       // entry 1 of gate 1 is open
-//! let answer = session.exchange(2, 0);           // entry 1 of gate 2 is closed
-//! assert_eq!(answer, Err(Refusal::ClosedEntry { entry: 1 }));
+//! ```
+#![doc = include_str!("../examples/twin.rs")]
 //! ```
 #![deny(unsafe_code, missing_docs)]
 
@@ -24,7 +18,7 @@ mod session;
 pub use refusal::Refusal;
 pub use session::{PatternSets, Session, Tables, SESSION_WORDS};
 
-/// Bytes of the longest listing.
+/// Enough for any listing.
 const MOST_TEXT: usize = 1042;
 
 /// The listing of a file; of one that would not load, the line `refused N`.

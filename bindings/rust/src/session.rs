@@ -48,6 +48,9 @@ impl Session {
     }
 
     /// A session kept elsewhere as words. Where they hold no network, every call on it is refused with 10.
+    ///
+    /// Open tables are taken as they stand, so the promise of [`exchange`](Session::exchange) on outputs is about words
+    /// that a load and exchanges gave.
     pub fn from_words(words: [u64; SESSION_WORDS]) -> Session {
         Session {
             words: Box::new(words),
@@ -99,6 +102,9 @@ impl Session {
     }
 
     /// Sets the current table of a gate, where it differs from the loaded one at open entries only. Refusals 10, 11, 12, 13.
+    ///
+    /// In a session that a load and exchanges gave, every output on every pattern not excluded stays that of the loaded
+    /// network.
     pub fn exchange(&mut self, gate: usize, table: u64) -> Result<(), Refusal> {
         let mut out = [0; 1];
         let number = raw::exchange(&mut self.words[..], gate, table, &mut out);

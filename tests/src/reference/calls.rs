@@ -2,7 +2,7 @@
 
 use super::file::{demand, load, write};
 use super::listing::listing;
-use super::network::{bit, Network};
+use super::network::{bit, words_of, Network};
 use super::state::{State, CURRENT};
 use crate::call::{Call, Lent};
 
@@ -53,15 +53,6 @@ fn all_tables(lent: &mut Lent) -> Result<(), u64> {
     demand(lent.out.len() >= 4 * m, 9)?;
     let words: Vec<u64> = (0..m).flat_map(|g| tables_of(&s, g)).collect();
     lay(&mut lent.out, &words)
-}
-
-/// A set of patterns as words of 64, the spare bits zero.
-fn words_of(set: &[bool]) -> Vec<u64> {
-    let word = |part: &[bool]| {
-        let ones = part.iter().enumerate().filter(|(_, &one)| one);
-        ones.map(|(b, _)| 1 << b).sum()
-    };
-    set.chunks(64).map(word).collect()
 }
 
 fn pattern_sets(lent: &mut Lent) -> Result<(), u64> {

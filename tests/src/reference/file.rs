@@ -44,24 +44,17 @@ pub fn load(file: &[u8]) -> Result<Network, u64> {
     demand((1..=10).contains(&n), 3)?;
     demand((1..=40).contains(&m), 3)?;
     demand((1..=8).contains(&p), 3)?;
-    let mut network = Network {
+    let excluded = excluded(&mut bytes, 1 << n)?;
+    let gates: Result<Vec<_>, u64> = (0..m).map(|g| gate(&mut bytes, n + g)).collect();
+    let (fanins, tables) = gates?.into_iter().unzip();
+    let outputs: Result<Vec<_>, u64> = (0..p).map(|_| output(&mut bytes, n + m)).collect();
+    let network = Network {
         n,
-        excluded: excluded(&mut bytes, 1 << n)?,
-        fanins: Vec::new(),
-        tables: Vec::new(),
-        outputs: Vec::new(),
+        excluded,
+        fanins,
+        tables,
+        outputs: outputs?,
     };
-    for g in 0..m {
-        let (fanins, table) = gate(&mut bytes, n + g)?;
-        network.fanins.push(fanins);
-        network.tables.push(table);
-    }
-    for _ in 0..p {
-        bytes.mark(b"NO")?;
-        let signal = bytes.take(1)?[0] as usize;
-        demand(signal < n + m, 7)?;
-        network.outputs.push(signal);
-    }
     demand(bytes.0.is_empty(), 8)?;
     Ok(network)
 }
@@ -98,23 +91,45 @@ fn gate(bytes: &mut Bytes, earlier: usize) -> Result<(Vec<usize>, u64), u64> {
     Ok((fanins, table))
 }
 
-/// The file of a network; an empty excluded set is left out.
+/// An output of a network with so many signals.
+fn output(bytes: &mut Bytes, signals: usize) -> Result<usize, u64> {
+    bytes.mark(b"NO")?;
+    let signal = bytes.take(1)?[0] as usize;
+    demand(signal < signals, 7)?;
+    Ok(signal)
+}
+
+/// The file of a network.
 pub fn write(s: &Network) -> Vec<u8> {
-    let mut file = vec![0x4E, 0x49, s.n as u8, s.m() as u8, s.outputs.len() as u8];
-    if s.excluded.contains(&true) {
-        file.extend([0x4E, 0x58]);
-        for eight in s.excluded.chunks(8) {
-            let ones = eight.iter().enumerate().filter(|(_, &one)| one);
-            file.push(ones.map(|(b, _)| 1 << b).sum());
-        }
+    let head = [0x4E, 0x49, s.n as u8, s.m() as u8, s.outputs.len() as u8];
+    let gates = s.fanins.iter().zip(&s.tables);
+    let gates = gates.flat_map(|(fanins, &table)| gate_record(fanins, table));
+    let outputs = s.outputs.iter().flat_map(|&s| [0x4E, 0x4F, s as u8]);
+    let excluded = excluded_record(&s.excluded).into_iter();
+    head.into_iter()
+        .chain(excluded)
+        .chain(gates)
+        .chain(outputs)
+        .collect()
+}
+
+/// Nothing where the set is empty.
+fn excluded_record(set: &[bool]) -> Vec<u8> {
+    if !set.contains(&true) {
+        return Vec::new();
     }
-    for (fanins, table) in s.fanins.iter().zip(&s.tables) {
-        file.extend([0x4E, 0x47, fanins.len() as u8]);
-        file.extend(fanins.iter().map(|&f| f as u8));
-        file.extend([(table % 256) as u8, (table / 256) as u8]);
-    }
-    for &signal in &s.outputs {
-        file.extend([0x4E, 0x4F, signal as u8]);
-    }
-    file
+    let byte = |eight: &[bool]| {
+        let ones = eight.iter().enumerate().filter(|(_, &one)| one);
+        ones.map(|(b, _)| 1 << b).sum()
+    };
+    [0x4E, 0x58]
+        .into_iter()
+        .chain(set.chunks(8).map(byte))
+        .collect()
+}
+
+fn gate_record(fanins: &[usize], table: u64) -> Vec<u8> {
+    let signals: Vec<u8> = fanins.iter().map(|&f| f as u8).collect();
+    let table = [(table % 256) as u8, (table / 256) as u8];
+    [&[0x4E, 0x47, fanins.len() as u8], &signals[..], &table].concat()
 }

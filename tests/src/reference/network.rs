@@ -14,6 +14,15 @@ pub fn bit(x: u64, i: usize) -> bool {
     x >> i & 1 == 1
 }
 
+/// A set of patterns as words of 64, the spare bits zero.
+pub fn words_of(set: &[bool]) -> Vec<u64> {
+    let word = |part: &[bool]| {
+        let ones = part.iter().enumerate().filter(|(_, &one)| one);
+        ones.map(|(b, _)| 1 << b).sum()
+    };
+    set.chunks(64).map(word).collect()
+}
+
 impl Network {
     pub fn m(&self) -> usize {
         self.fanins.len()
@@ -57,14 +66,12 @@ impl Network {
 
     /// The smallest pattern not excluded at which an output of the other network differs, and the lowest such output.
     pub fn harm(&self, other: &Network) -> Option<(usize, usize)> {
-        for x in (0..self.patterns()).filter(|&x| !self.excluded[x]) {
+        let lowest = |x: usize| {
             let (a, b) = (self.outputs_at(x, None), other.outputs_at(x, None));
-            for i in 0..self.outputs.len() {
-                if a[i] != b[i] {
-                    return Some((x, i));
-                }
-            }
-        }
-        None
+            let i = (0..a.len()).find(|&i| a[i] != b[i]);
+            i.map(|i| (x, i))
+        };
+        let mut patterns = (0..self.patterns()).filter(|&x| !self.excluded[x]);
+        patterns.find_map(lowest)
     }
 }

@@ -60,17 +60,22 @@ impl Network {
     /// Which gates' H hold the pattern x.
     fn compatible_at(&self, x: usize) -> Vec<bool> {
         let values = self.values(x, None);
-        let mut h = vec![true; self.n + self.m()];
-        for &s in &self.outputs {
-            h[s] = h[s] && self.excluded[x];
-        }
+        let named = |s: usize| self.outputs.contains(&s);
+        let mut h: Vec<bool> = (0..self.n + self.m())
+            .map(|s| !named(s) || self.excluded[x])
+            .collect();
         for g in (0..self.m()).rev() {
-            let free = self.free(g, self.entry(&values, g));
-            for (r, &f) in self.fanins[g].iter().enumerate() {
-                h[f] = h[f] && (h[self.n + g] || free[r]);
-            }
+            self.take_edges(g, self.entry(&values, g), &mut h);
         }
         h[self.n..].to_vec()
+    }
+
+    /// Intersects the sets of gate g's fan-ins with their edge sets, at a pattern that gives the entry t.
+    fn take_edges(&self, g: usize, t: usize, h: &mut [bool]) {
+        let (own, free) = (h[self.n + g], self.free(g, t));
+        for (&f, free) in self.fanins[g].iter().zip(free) {
+            h[f] = h[f] && (own || free);
+        }
     }
 
     /// 6. The fan-ins that are free at the entry t of gate g, where its value counts.

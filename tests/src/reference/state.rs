@@ -1,7 +1,7 @@
 //! The state that a session's words hold, and the test of words made by hand (10).
 
 use super::file::demand;
-use super::network::Network;
+use super::network::{words_of, Network};
 
 // where each field of a session begins
 pub const ARITY: usize = 3;
@@ -34,26 +34,19 @@ impl State {
     /// A session's words; the places that nothing fills are zero.
     pub fn words(&self) -> Vec<u64> {
         let s = &self.loaded;
-        let mut words = vec![0; WORDS];
-        words[0] = s.n as u64;
-        words[1] = s.m() as u64;
-        words[2] = s.outputs.len() as u64;
-        for (g, fanins) in s.fanins.iter().enumerate() {
-            words[ARITY + g] = fanins.len() as u64;
-            for (r, &f) in fanins.iter().enumerate() {
-                words[FANINS + 6 * g + r] = f as u64;
-            }
-            words[LOADED + g] = s.tables[g];
-            words[CURRENT + g] = self.current.tables[g];
-            words[OPEN + g] = self.open[g];
-        }
-        for (i, &signal) in s.outputs.iter().enumerate() {
-            words[OUTPUTS + i] = signal as u64;
-        }
-        for x in (0..s.patterns()).filter(|&x| s.excluded[x]) {
-            words[EXCLUDED + x / 64] |= 1 << (x % 64);
-        }
-        words
+        let arity: Vec<usize> = s.fanins.iter().map(|f| f.len()).collect();
+        let fanins = s.fanins.iter().flat_map(|f| filled(&numbers(f), 6));
+        [
+            numbers(&[s.n, s.m(), s.outputs.len()]),
+            filled(&numbers(&arity), 40),
+            filled(&fanins.collect::<Vec<u64>>(), 240),
+            filled(&numbers(&s.outputs), 8),
+            filled(&words_of(&s.excluded), 16),
+            filled(&s.tables, 40),
+            filled(&self.current.tables, 40),
+            filled(&self.open, 40),
+        ]
+        .concat()
     }
 
     /// 9 where words are missing, 10 where they hold no network.
@@ -93,6 +86,17 @@ impl State {
         demand(gate >= n && gate < n + m, 11)?;
         Ok(gate - n)
     }
+}
+
+fn numbers(list: &[usize]) -> Vec<u64> {
+    list.iter().map(|&x| x as u64).collect()
+}
+
+/// The words, and zeros up to this length.
+fn filled(words: &[u64], length: usize) -> Vec<u64> {
+    let mut part = words.to_vec();
+    part.resize(length, 0);
+    part
 }
 
 fn fanins_of(words: &[u64], g: usize, earlier: usize) -> Result<Vec<usize>, u64> {
