@@ -93,9 +93,10 @@ fn through_gate(
     ensures { λ _. ⌜ (length (now (hs .exit)) ≡ 800) × ((ts : List ℕ) (w b s : ℕ) → w < count → b < 64 → bit (getD (wordsAt (now (hs .exit)) w) s 0) b ≡ (bit (getD (wordsAt (now (hs .entry)) w) s 0) b && every (getD (now (arity .entry)) g 0) (edge (now (fanins .entry)) (now (edges .entry)) g (getD (now (own .entry)) w 0) b (entry (column (wordsAt (now (rows .entry)) w) b) (gateAt (now (arity .entry)) (now (fanins .entry)) ts g)) s))) ⌝ }
 {
     let k = network::place(arity[g]);
+    let mut free = [0u64; 16];
     let mut r = 0;
     while r < k {
-        let free = simulate::lut_row(edges[6 * g + r], arity, fanins, rows, count, g);
+        simulate::lut_row(edges[6 * g + r], arity, fanins, rows, count, g, &mut free);
         let edge = union(own, &free, count);
         let f = simulate::fanin(fanins, g, r);
         intersect(hs, f, &edge, count);
@@ -155,8 +156,9 @@ fn compatible_rows(
     requires { ⌜ count ≤ 16 ⌝ }
     ensures { λ r. ⌜ CompatibleRows (now (arity .entry)) (now (fanins .entry)) (now (tables .entry)) (now (excluded .entry)) (now (outs .entry)) (r .values) (r .sets) n m p count ⌝ }
 {
-    let rows = simulate::rows(n, m, arity, fanins, tables, count);
-    let mut hs = intersected(n, m, arity, fanins, tables, excluded, p, outs, &rows, count);
+    let mut vals = [0u64; 800];
+    simulate::rows(n, m, arity, fanins, tables, count, &mut vals);
+    let mut hs = intersected(n, m, arity, fanins, tables, excluded, p, outs, &vals, count);
     let empty = [0u64; 16];
     let mut i = 0;
     while i < n {
@@ -164,7 +166,7 @@ fn compatible_rows(
         i += 1;
     }
     SignalRows {
-        values: rows,
+        values: vals,
         sets: hs,
     }
 }

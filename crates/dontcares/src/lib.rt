@@ -150,7 +150,8 @@ fn sets_between(s: Session, a: usize, t: usize, e: usize, odc: &mut [u64; 640]) 
     let f = observability::extent(n);
     let count = f.count;
     let live = f.live;
-    let rows = simulate::rows(n, m, &arity, &fanins, &tables, count);
+    let mut values = [0u64; 800];
+    simulate::rows(n, m, &arity, &fanins, &tables, count, &mut values);
     observability::odc_words(
         n,
         m,
@@ -159,14 +160,14 @@ fn sets_between(s: Session, a: usize, t: usize, e: usize, odc: &mut [u64; 640]) 
         &tables,
         p,
         &outputs,
-        &rows,
+        &values,
         count,
         live,
         a,
         e,
         odc,
     );
-    tables_of(a, t, &arity, &fanins, &excluded, &rows, odc, count, live)
+    tables_of(a, t, &arity, &fanins, &excluded, &values, odc, count, live)
 }
 
 // Rule 3 for all gates: the words of gate g's ODC stand at place 16 * g and on; spare bits are zero.

@@ -89,7 +89,8 @@ fn observed_row(
     requires { ⌜ Masked (now arity) (now fanins) (now masks) m ⌝ }
     ensures { λ l. ⌜ ((ex : List ℕ) (w b : ℕ) → w < count → b < 64 → bit (getD l w 0) b ≡ not (odc (netOf (now (arity .entry)) (now (fanins .entry)) (now (tables .entry)) n m ex (now (outputs .entry)) p) (n + g) (w * 64 + b))) ⌝ }
 {
-    let other = simulate::inverted(n, m, arity, fanins, tables, masks, rows, count, g);
+    let mut other = *rows;
+    simulate::invert(n, m, arity, fanins, *tables, masks, count, g, &mut other);
     observed(p, outputs, rows, &other, count)
 }
 

@@ -7,7 +7,6 @@ use lib.ListN.{length, getD, take}
 use Rattle.bits.specs.Range.{places}
 use Rattle.bits.specs.Bit.{bit, column}
 use Rattle.network.specs.Net.{run}
-use Rattle.network.specs.DontCares.{runInverted}
 use Rattle.network.specs.Flat.{gatesOf}
 
 -- word s of the first i has at bit b the value of input s at the pattern 64 w + b
@@ -33,17 +32,15 @@ valueAt rows s w b = bit (getD rows (16 * s + w) 0) b
 abbrev pub Rows : (ks fs ts rows : List ℕ) (n m count : ℕ) → Type 0
 Rows ks fs ts rows n m count = (w : ℕ) → w < count → Simulated ks fs ts (wordsAt rows w) n m w
 
--- ## Where the value of gate g is inverted
+-- ## Other tables, from rows of values that are there
 
 -- the mask of each of the first m gates has a one at each of its fan-ins
 abbrev pub Masked : (ks fs masks : List ℕ) (m : ℕ) → Type 0
 Masked ks fs masks m = (g : ℕ) → g < m → (r : ℕ) → r < getD ks g 0 → bit (getD masks g 0) (getD fs (6 * g + r) 0) ≡ true
 
--- the gates up to h are done: `other` has their values where that of gate g is inverted, and all signals but those of `changed` have
--- the values of `rows`
-pub record Inverted (ks fs ts rows other : List ℕ) (n count g h changed : ℕ) : Type 0 where
-  pub long : length other ≡ 800
-  pub each : (w b : ℕ) → w < count → b < 64
-      → take (n + h) (column (wordsAt other w) b) ≡ runInverted (n + g) (places n (bit (w * 64 + b))) (gatesOf ks fs ts h)
-  pub kept : (w s : ℕ) → w < count → bit changed s ≡ false → getD (wordsAt other w) s 0 ≡ getD (wordsAt rows w) s 0
+-- the first h gates are done: `rows` has their values under the tables ts, and all signals but those of `changed` have the words of `old`
+pub record Updated (ks fs ts old rows : List ℕ) (n count h changed : ℕ) : Type 0 where
+  pub long : length rows ≡ 800
+  pub done : Rows ks fs ts rows n h count
+  pub kept : (w s : ℕ) → w < count → bit changed s ≡ false → getD (wordsAt rows w) s 0 ≡ getD (wordsAt old w) s 0
   pub later : (s : ℕ) → n + h ≤ s → bit changed s ≡ false

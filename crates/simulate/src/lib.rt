@@ -1,6 +1,6 @@
 // The values of all signals, 64 patterns a word. Row s holds the words of signal s: word w stands at place 16 * s + w.
 ghost use mathlib.Core.Path.{_≡_};
-ghost use mathlib.Core.Bool.{true, not};
+ghost use mathlib.Core.Bool.{true};
 ghost use mathlib.Core.List.{List, [], _∷_};
 ghost use Prim.Native.Nat.{ℕ, _+_, _*_, _<_, _≤_};
 ghost use lib.ListN.{length, getD, set, take};
@@ -10,49 +10,46 @@ ghost use Rattle.network.specs.Net.{entry};
 ghost use Rattle.network.specs.DontCares.{runInverted};
 ghost use Rattle.network.specs.Flat.{gateAt, gatesOf};
 ghost use Rattle.network.specs.Valid.{GateOk, NetOk};
-ghost use Rattle.simulate.specs.Simulated.{Inputs, wordsAt, valueAt, Rows, Masked, Inverted};
+ghost use Rattle.simulate.specs.Simulated.{Inputs, wordsAt, valueAt, Rows, Masked, Updated};
 
-// The table t at the rows of one to four signals.
-fn row1(t: u64, rows: &[u64; 800], count: usize, a: usize) -> [u64; 16]
-    requires { ⌜ count ≤ 16 ⌝ }
+// The table t at the rows of one to four signals, into a lent row.
+fn row1(t: u64, rows: &[u64; 800], count: usize, a: usize, out: &mut [u64; 16])
+    requires { ⌜ (count ≤ 16) × (length (now out) ≡ 16) ⌝ }
     requires { ⌜ (a < 50) ⌝ }
-    ensures { λ l. ⌜ ((w i : ℕ) → w < count → i < 64 → bit (getD l w 0) i ≡ bit t (number (valueAt (now (rows .entry)) a w i ∷ []))) ⌝ }
+    ensures { λ _. ⌜ (length (now (out .exit)) ≡ 16) × ((w i : ℕ) → w < count → i < 64 → bit (getD (now (out .exit)) w 0) i ≡ bit t (number (valueAt (now (rows .entry)) a w i ∷ []))) ⌝ }
 {
-    let mut l = [0u64; 16];
     let mut w = 0;
     while w < count {
-        l[w] = bits::lut1(t, rows[16 * a + w]);
+        let v = bits::lut1(t, rows[16 * a + w]);
+        out[w] = v;
         w += 1;
     }
-    l
 }
 
-fn row2(t: u64, rows: &[u64; 800], count: usize, a: usize, b: usize) -> [u64; 16]
-    requires { ⌜ count ≤ 16 ⌝ }
+fn row2(t: u64, rows: &[u64; 800], count: usize, a: usize, b: usize, out: &mut [u64; 16])
+    requires { ⌜ (count ≤ 16) × (length (now out) ≡ 16) ⌝ }
     requires { ⌜ (a < 50) × (b < 50) ⌝ }
-    ensures { λ l. ⌜ ((w i : ℕ) → w < count → i < 64 → bit (getD l w 0) i ≡ bit t (number (valueAt (now (rows .entry)) a w i ∷ valueAt (now (rows .entry)) b w i ∷ []))) ⌝ }
+    ensures { λ _. ⌜ (length (now (out .exit)) ≡ 16) × ((w i : ℕ) → w < count → i < 64 → bit (getD (now (out .exit)) w 0) i ≡ bit t (number (valueAt (now (rows .entry)) a w i ∷ valueAt (now (rows .entry)) b w i ∷ []))) ⌝ }
 {
-    let mut l = [0u64; 16];
     let mut w = 0;
     while w < count {
-        l[w] = bits::lut2(t, rows[16 * a + w], rows[16 * b + w]);
+        let v = bits::lut2(t, rows[16 * a + w], rows[16 * b + w]);
+        out[w] = v;
         w += 1;
     }
-    l
 }
 
-fn row3(t: u64, rows: &[u64; 800], count: usize, a: usize, b: usize, c: usize) -> [u64; 16]
-    requires { ⌜ count ≤ 16 ⌝ }
+fn row3(t: u64, rows: &[u64; 800], count: usize, a: usize, b: usize, c: usize, out: &mut [u64; 16])
+    requires { ⌜ (count ≤ 16) × (length (now out) ≡ 16) ⌝ }
     requires { ⌜ (a < 50) × (b < 50) × (c < 50) ⌝ }
-    ensures { λ l. ⌜ ((w i : ℕ) → w < count → i < 64 → bit (getD l w 0) i ≡ bit t (number (valueAt (now (rows .entry)) a w i ∷ valueAt (now (rows .entry)) b w i ∷ valueAt (now (rows .entry)) c w i ∷ []))) ⌝ }
+    ensures { λ _. ⌜ (length (now (out .exit)) ≡ 16) × ((w i : ℕ) → w < count → i < 64 → bit (getD (now (out .exit)) w 0) i ≡ bit t (number (valueAt (now (rows .entry)) a w i ∷ valueAt (now (rows .entry)) b w i ∷ valueAt (now (rows .entry)) c w i ∷ []))) ⌝ }
 {
-    let mut l = [0u64; 16];
     let mut w = 0;
     while w < count {
-        l[w] = bits::lut3(t, rows[16 * a + w], rows[16 * b + w], rows[16 * c + w]);
+        let v = bits::lut3(t, rows[16 * a + w], rows[16 * b + w], rows[16 * c + w]);
+        out[w] = v;
         w += 1;
     }
-    l
 }
 
 fn row4(
@@ -63,24 +60,24 @@ fn row4(
     b: usize,
     c: usize,
     d: usize,
-) -> [u64; 16]
-    requires { ⌜ count ≤ 16 ⌝ }
+    out: &mut [u64; 16],
+)
+    requires { ⌜ (count ≤ 16) × (length (now out) ≡ 16) ⌝ }
     requires { ⌜ (a < 50) × (b < 50) × (c < 50) × (d < 50) ⌝ }
-    ensures { λ l. ⌜ ((w i : ℕ) → w < count → i < 64 → bit (getD l w 0) i ≡ bit t (number (valueAt (now (rows .entry)) a w i ∷ valueAt (now (rows .entry)) b w i ∷ valueAt (now (rows .entry)) c w i ∷ valueAt (now (rows .entry)) d w i ∷ []))) ⌝ }
+    ensures { λ _. ⌜ (length (now (out .exit)) ≡ 16) × ((w i : ℕ) → w < count → i < 64 → bit (getD (now (out .exit)) w 0) i ≡ bit t (number (valueAt (now (rows .entry)) a w i ∷ valueAt (now (rows .entry)) b w i ∷ valueAt (now (rows .entry)) c w i ∷ valueAt (now (rows .entry)) d w i ∷ []))) ⌝ }
 {
-    let mut l = [0u64; 16];
     let mut w = 0;
     while w < count {
-        l[w] = bits::lut4(
+        let v = bits::lut4(
             t,
             rows[16 * a + w],
             rows[16 * b + w],
             rows[16 * c + w],
             rows[16 * d + w],
         );
+        out[w] = v;
         w += 1;
     }
-    l
 }
 
 // Fan-in r of gate g.
@@ -91,7 +88,7 @@ pub fn fanin(fanins: &[u8; 240], g: usize, r: usize) -> usize
     network::place(fanins[6 * g + r])
 }
 
-// The table t at the rows of the fan-ins of gate g.
+// The table t at the rows of the fan-ins of gate g, into a lent row.
 pub fn lut_row(
     t: u64,
     arity: &[u8; 40],
@@ -99,42 +96,27 @@ pub fn lut_row(
     rows: &[u64; 800],
     count: usize,
     g: usize,
-) -> [u64; 16]
-    requires { ⌜ (g < 40) × (count ≤ 16) ⌝ }
+    out: &mut [u64; 16],
+)
+    requires { ⌜ (g < 40) × (count ≤ 16) × (length (now out) ≡ 16) ⌝ }
     requires { ⌜ GateOk (now arity) (now fanins) g 50 ⌝ }
-    ensures { λ l. ⌜ ((ts : List ℕ) (w b : ℕ) → w < count → b < 64 → bit (getD l w 0) b ≡ bit t (entry (column (wordsAt (now (rows .entry)) w) b) (gateAt (now (arity .entry)) (now (fanins .entry)) ts g))) ⌝ }
+    ensures { λ _. ⌜ (length (now (out .exit)) ≡ 16) × ((ts : List ℕ) (w b : ℕ) → w < count → b < 64 → bit (getD (now (out .exit)) w 0) b ≡ bit t (entry (column (wordsAt (now (rows .entry)) w) b) (gateAt (now (arity .entry)) (now (fanins .entry)) ts g))) ⌝ }
 {
     let k = network::place(arity[g]);
     let a = fanin(fanins, g, 0);
     if k == 1 {
-        return row1(t, rows, count, a);
+        return row1(t, rows, count, a, out);
     }
     let b = fanin(fanins, g, 1);
     if k == 2 {
-        return row2(t, rows, count, a, b);
+        return row2(t, rows, count, a, b, out);
     }
     let c = fanin(fanins, g, 2);
     if k == 3 {
-        return row3(t, rows, count, a, b, c);
+        return row3(t, rows, count, a, b, c, out);
     }
     let d = fanin(fanins, g, 3);
-    row4(t, rows, count, a, b, c, d)
-}
-
-// The words of gate g, from the rows of the signals before it.
-fn gate_row(
-    arity: &[u8; 40],
-    fanins: &[u8; 240],
-    tables: &[u64; 40],
-    rows: &[u64; 800],
-    count: usize,
-    g: usize,
-) -> [u64; 16]
-    requires { ⌜ (g < 40) × (count ≤ 16) ⌝ }
-    requires { ⌜ GateOk (now arity) (now fanins) g 50 ⌝ }
-    ensures { λ l. ⌜ ((w b : ℕ) → w < count → b < 64 → bit (getD l w 0) b ≡ bit (getD (now (tables .entry)) g 0) (entry (column (wordsAt (now (rows .entry)) w) b) (gateAt (now (arity .entry)) (now (fanins .entry)) (now (tables .entry)) g))) ⌝ }
-{
-    lut_row(tables[g], arity, fanins, rows, count, g)
+    row4(t, rows, count, a, b, c, d, out);
 }
 
 // Word w of each fan-in of gate g.
@@ -160,18 +142,17 @@ pub fn gather_at(
     ins
 }
 
-// The words of input i.
-fn input_row(i: usize, count: usize) -> [u64; 16]
-    requires { ⌜ (i < 64) × (count ≤ 16) ⌝ }
-    ensures { λ l. ⌜ ((w b : ℕ) → w < count → b < 64 → bit (getD l w 0) b ≡ bit (w * 64 + b) i) ⌝ }
+// The words of input i, into a lent row.
+fn input_row(i: usize, count: usize, out: &mut [u64; 16])
+    requires { ⌜ (i < 64) × (count ≤ 16) × (length (now out) ≡ 16) ⌝ }
+    ensures { λ _. ⌜ (length (now (out .exit)) ≡ 16) × ((w b : ℕ) → w < count → b < 64 → bit (getD (now (out .exit)) w 0) b ≡ bit (w * 64 + b) i) ⌝ }
 {
-    let mut l = [0u64; 16];
     let mut w = 0;
     while w < count {
-        l[w] = bits::input_word(i, w as u64);
+        let v = bits::input_word(i, w as u64);
+        out[w] = v;
         w += 1;
     }
-    l
 }
 
 // Signal s gets the words of a row.
@@ -188,18 +169,36 @@ pub fn store_row(rows: &mut [u64; 800], s: usize, row: &[u64; 16], count: usize)
 }
 
 // The rows of the n inputs.
-fn input_rows(n: usize, count: usize) -> [u64; 800]
-    requires { ⌜ (n ≤ 10) × (count ≤ 16) ⌝ }
-    ensures { λ r. ⌜ (length r ≡ 800) × ((w : ℕ) → w < count → Inputs (wordsAt r w) n w) ⌝ }
+fn input_rows(n: usize, count: usize, rows: &mut [u64; 800])
+    requires { ⌜ (n ≤ 10) × (count ≤ 16) × (length (now rows) ≡ 800) ⌝ }
+    ensures { λ _. ⌜ (length (now (rows .exit)) ≡ 800) × ((w : ℕ) → w < count → Inputs (wordsAt (now (rows .exit)) w) n w) ⌝ }
 {
-    let mut rows = [0u64; 800];
+    let mut row = [0u64; 16];
     let mut i = 0;
     while i < n {
-        let row = input_row(i, count);
-        store_row(&mut rows, i, &row, count);
+        input_row(i, count, &mut row);
+        store_row(rows, i, &row, count);
         i += 1;
     }
-    rows
+}
+
+// The row of gate g, from those of the signals before it.
+fn gate_row(
+    n: usize,
+    arity: &[u8; 40],
+    fanins: &[u8; 240],
+    tables: &[u64; 40],
+    count: usize,
+    rows: &mut [u64; 800],
+    g: usize,
+)
+    requires { ⌜ (n ≤ 10) × (g < 40) × (count ≤ 16) × (length (now rows) ≡ 800) ⌝ }
+    requires { ⌜ GateOk (now arity) (now fanins) g (n + g) ⌝ }
+    ensures { λ _. ⌜ (length (now (rows .exit)) ≡ 800) × (Rows (now (arity .entry)) (now (fanins .entry)) (now (tables .entry)) (now (rows .entry)) n g count → Rows (now (arity .entry)) (now (fanins .entry)) (now (tables .entry)) (now (rows .exit)) n (g + 1) count) ⌝ }
+{
+    let mut row = [0u64; 16];
+    lut_row(tables[g], arity, fanins, rows, count, g, &mut row);
+    store_row(rows, n + g, &row, count);
 }
 
 // The rows of all signals: the inputs', then the gates'.
@@ -210,19 +209,18 @@ pub fn rows(
     fanins: &[u8; 240],
     tables: &[u64; 40],
     count: usize,
-) -> [u64; 800]
+    rows: &mut [u64; 800],
+)
     requires { ⌜ NetOk (now arity) (now fanins) n m ⌝ }
-    requires { ⌜ count ≤ 16 ⌝ }
-    ensures { λ r. ⌜ (length r ≡ 800) × Rows (now (arity .entry)) (now (fanins .entry)) (now (tables .entry)) r n m count ⌝ }
+    requires { ⌜ (count ≤ 16) × (length (now rows) ≡ 800) ⌝ }
+    ensures { λ _. ⌜ (length (now (rows .exit)) ≡ 800) × Rows (now (arity .entry)) (now (fanins .entry)) (now (tables .entry)) (now (rows .exit)) n m count ⌝ }
 {
-    let mut rows = input_rows(n, count);
+    input_rows(n, count, rows);
     let mut g = 0;
     while g < m {
-        let row = gate_row(arity, fanins, tables, &rows, count, g);
-        store_row(&mut rows, n + g, &row, count);
+        gate_row(n, arity, fanins, tables, count, rows, g);
         g += 1;
     }
-    rows
 }
 
 // The fan-ins of gate g as a set of signals.
@@ -256,81 +254,133 @@ pub fn fanin_masks(n: usize, m: usize, arity: &[u8; 40], fanins: &[u8; 240]) -> 
     l
 }
 
-// Gate h, after the inverted one: simulated again where a fan-in changed. The changed signals are given back.
+// Signal s has the words of a row already.
+fn same_row(rows: &[u64; 800], s: usize, row: &[u64; 16], count: usize) -> bool
+    requires { ⌜ (s < 50) × (count ≤ 16) ⌝ }
+    ensures { λ r. ⌜ (r ≡ true → (w : ℕ) → w < count → getD (now (row .entry)) w 0 ≡ getD (wordsAt (now (rows .entry)) w) s 0) ⌝ }
+{
+    let mut w = 0;
+    while w < count {
+        if row[w] != rows[16 * s + w] {
+            return false;
+        }
+        w += 1;
+    }
+    true
+}
+
+// Gate h where the tables before it have changed: simulated again if its table is another one or a fan-in changed. The changed signals
+// are given back.
 fn step(
     n: usize,
     arity: &[u8; 40],
     fanins: &[u8; 240],
+    before: &[u64; 40],
     tables: &[u64; 40],
     masks: &[u64; 40],
     count: usize,
-    other: &mut [u64; 800],
+    rows: &mut [u64; 800],
     changed: u64,
     h: usize,
 ) -> u64
     requires { ⌜ (n ≤ 10) × (h < 40) × (count ≤ 16) ⌝ }
     requires { ⌜ GateOk (now arity) (now fanins) h (n + h) ⌝ }
-    requires { ⌜ length (now other) ≡ 800 ⌝ }
-    ensures { λ r. ⌜ ((rows : List ℕ) (m g : ℕ) → g < h → h < m → Rows (now (arity .entry)) (now (fanins .entry)) (now (tables .entry)) rows n m count → Masked (now (arity .entry)) (now (fanins .entry)) (now (masks .entry)) m → Inverted (now (arity .entry)) (now (fanins .entry)) (now (tables .entry)) rows (now (other .entry)) n count g h changed → Inverted (now (arity .entry)) (now (fanins .entry)) (now (tables .entry)) rows (now (other .exit)) n count g (h + 1) r) ⌝ }
+    requires { ⌜ length (now rows) ≡ 800 ⌝ }
+    ensures { λ r. ⌜ ((old : List ℕ) (m : ℕ) → h < m → Rows (now (arity .entry)) (now (fanins .entry)) (now (before .entry)) old n m count → Masked (now (arity .entry)) (now (fanins .entry)) (now (masks .entry)) m → Updated (now (arity .entry)) (now (fanins .entry)) (now (tables .entry)) old (now (rows .entry)) n count h changed → Updated (now (arity .entry)) (now (fanins .entry)) (now (tables .entry)) old (now (rows .exit)) n count (h + 1) r) ⌝ }
 {
-    if masks[h] & changed == 0 {
+    let t = tables[h];
+    if t == before[h] {
+        if masks[h] & changed == 0 {
+            return changed;
+        }
+    }
+    let mut row = [0u64; 16];
+    lut_row(t, arity, fanins, rows, count, h, &mut row);
+    if same_row(rows, n + h, &row, count) {
         return changed;
     }
-    let row = gate_row(arity, fanins, tables, other, count, h);
-    store_row(other, n + h, &row, count);
+    store_row(rows, n + h, &row, count);
     changed | bits::power((n + h) as u64)
 }
 
-// The row of signal s with each bit the other way round.
-fn invert_row(rows: &[u64; 800], s: usize, count: usize) -> [u64; 16]
-    requires { ⌜ (s < 50) × (count ≤ 16) ⌝ }
-    ensures { λ l. ⌜ ((w b : ℕ) → w < count → b < 64 → bit (getD l w 0) b ≡ not (valueAt (now (rows .entry)) s w b)) ⌝ }
-{
-    let mut l = [0u64; 16];
-    let mut w = 0;
-    while w < count {
-        l[w] = bits::invert(rows[16 * s + w]);
-        w += 1;
-    }
-    l
-}
-
-// The rows of all signals where gate g's is inverted: rows has the values.
-pub fn inverted(
+// The rows under the tables `before` become those under `tables`, which are the same up to gate `from`.
+fn update_from(
     n: usize,
     m: usize,
     arity: &[u8; 40],
     fanins: &[u8; 240],
+    before: &[u64; 40],
     tables: &[u64; 40],
     masks: &[u64; 40],
-    rows: &[u64; 800],
     count: usize,
-    g: usize,
-) -> [u64; 800]
+    from: usize,
+    rows: &mut [u64; 800],
+)
     requires { ⌜ NetOk (now arity) (now fanins) n m ⌝ }
-    requires { ⌜ (g < m) × (count ≤ 16) × (length (now rows) ≡ 800) ⌝ }
-    requires { ⌜ Rows (now arity) (now fanins) (now tables) (now rows) n m count ⌝ }
+    requires { ⌜ (count ≤ 16) × (from ≤ m) × (length (now rows) ≡ 800) ⌝ }
+    requires { ⌜ Rows (now arity) (now fanins) (now before) (now rows) n m count ⌝ }
     requires { ⌜ Masked (now arity) (now fanins) (now masks) m ⌝ }
-    ensures { λ l. ⌜ ((w b : ℕ) → w < count → b < 64 → take (n + m) (column (wordsAt l w) b) ≡ runInverted (n + g) (places n (bit (w * 64 + b))) (gatesOf (now (arity .entry)) (now (fanins .entry)) (now (tables .entry)) m)) ⌝ }
+    requires { ⌜ ((g : ℕ) → g < from → getD (now before) g 0 ≡ getD (now tables) g 0) ⌝ }
+    ensures { λ _. ⌜ (length (now (rows .exit)) ≡ 800) × Rows (now (arity .entry)) (now (fanins .entry)) (now (tables .entry)) (now (rows .exit)) n m count ⌝ }
 {
-    let row = invert_row(rows, n + g, count);
-    let mut other = *rows;
-    store_row(&mut other, n + g, &row, count);
-    let mut changed = bits::power((n + g) as u64);
-    let mut h = g + 1;
+    let mut changed: u64 = 0;
+    let mut h = from;
     while h < m {
         changed = step(
             n,
             arity,
             fanins,
+            before,
             tables,
             masks,
             count,
-            &mut other,
+            rows,
             changed,
             h,
         );
         h += 1;
     }
-    other
+}
+
+// The rows under the tables `before` become those under `tables`.
+pub fn update(
+    n: usize,
+    m: usize,
+    arity: &[u8; 40],
+    fanins: &[u8; 240],
+    before: &[u64; 40],
+    tables: &[u64; 40],
+    count: usize,
+    rows: &mut [u64; 800],
+)
+    requires { ⌜ NetOk (now arity) (now fanins) n m ⌝ }
+    requires { ⌜ (count ≤ 16) × (length (now rows) ≡ 800) ⌝ }
+    requires { ⌜ Rows (now arity) (now fanins) (now before) (now rows) n m count ⌝ }
+    ensures { λ _. ⌜ (length (now (rows .exit)) ≡ 800) × Rows (now (arity .entry)) (now (fanins .entry)) (now (tables .entry)) (now (rows .exit)) n m count ⌝ }
+{
+    let masks = fanin_masks(n, m, arity, fanins);
+    update_from(n, m, arity, fanins, before, tables, &masks, count, 0, rows);
+}
+
+// The rows become those where gate g's value is inverted: its table is complemented.
+pub fn invert(
+    n: usize,
+    m: usize,
+    arity: &[u8; 40],
+    fanins: &[u8; 240],
+    tables: [u64; 40],
+    masks: &[u64; 40],
+    count: usize,
+    g: usize,
+    rows: &mut [u64; 800],
+)
+    requires { ⌜ NetOk (now arity) (now fanins) n m ⌝ }
+    requires { ⌜ (g < m) × (count ≤ 16) × (length (now rows) ≡ 800) ⌝ }
+    requires { ⌜ Rows (now arity) (now fanins) tables (now rows) n m count ⌝ }
+    requires { ⌜ Masked (now arity) (now fanins) (now masks) m ⌝ }
+    ensures { λ _. ⌜ ((w b : ℕ) → w < count → b < 64 → take (n + m) (column (wordsAt (now (rows .exit)) w) b) ≡ runInverted (n + g) (places n (bit (w * 64 + b))) (gatesOf (now (arity .entry)) (now (fanins .entry)) tables m)) ⌝ }
+{
+    let mut others = tables;
+    others[g] = bits::invert(tables[g]);
+    update_from(n, m, arity, fanins, &tables, &others, masks, count, g, rows);
 }

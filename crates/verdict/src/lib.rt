@@ -111,7 +111,7 @@ fn compare(
     search(p, outs, xs, ys, keep, w)
 }
 
-// The first harm over all words, from the rows of both networks. Places past the last pattern and excluded patterns are not judged.
+// The first harm over all words. The second network is simulated only where it differs from the first. Places past the last pattern and excluded patterns are not judged.
 fn network_harm(
     n: usize,
     m: usize,
@@ -130,8 +130,10 @@ fn network_harm(
     let z = bits::size(n);
     let words = z.words;
     let live = bits::mask(z.places);
-    let xs = simulate::rows(n, m, arity, fanins, loaded, words);
-    let ys = simulate::rows(n, m, arity, fanins, tables, words);
+    let mut xs = [0u64; 800];
+    simulate::rows(n, m, arity, fanins, loaded, words, &mut xs);
+    let mut ys = xs;
+    simulate::update(n, m, arity, fanins, loaded, tables, words, &mut ys);
     let mut w = 0;
     while w < words {
         let keep = live & bits::invert(excluded[w]);

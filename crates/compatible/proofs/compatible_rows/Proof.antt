@@ -1,6 +1,6 @@
 -- `compatible::compatible_rows` meets its contract. Assumes nothing.
 use borrow.Author.Needs.{needs}
-use mathlib.Core.Path.{_≡_, ap, _∙_}
+use mathlib.Core.Path.{_≡_, refl, ap, _∙_}
 use mathlib.Core.Bool.{_&&_}
 use Prim.Native.Nat.{ℕ, _-_, _≤_, _<_}
 use native.Mathlib.Omega.{arith}
@@ -27,10 +27,10 @@ abbrev μ-loop : tie.MeasureT-loop
 μ-loop n m arity fanins tables excluded p outs count rows hs₀ empty i₀ hs i = n - i
 
 rows-requires : tie.Need-rows-requires Inv-loop μ-loop
-rows-requires c κs = (c .pre .0, c .pre .1 .1)
+rows-requires c κs = let s = c .before in (s .pre .0, (s .pre .1 .1, refl))
 
 intersected-requires : tie.Need-intersected-requires Inv-loop μ-loop
-intersected-requires c κs = c .before .before .pre
+intersected-requires c κs = c .before .before .before .pre
 
 loop-holds : tie.Need-loop-holds Inv-loop μ-loop
 loop-holds c = (
@@ -42,11 +42,11 @@ loop-holds c = (
 store-row-requires : tie.Need-store-row-requires Inv-loop μ-loop
 store-row-requires c κs =
     let l = c .before .before .before in
-    let s = l .before .before .before .before in
+    let s = l .before .before .before .before .before in
     ((omega (arith, s .pre .0 .ins), s .pre .1 .1), l .loop .inv .1)
 
 add-i : tie.Need-add-i Inv-loop μ-loop
-add-i c = omega (arith, c .before .before .before .before .before .before .before .before .pre .0 .ins)
+add-i c = omega (arith, c .before .before .before .before .before .before .before .before .before .pre .0 .ins)
 
 loop-less : tie.Need-loop-less Inv-loop μ-loop
 loop-less c = search needs
@@ -54,7 +54,7 @@ loop-less c = search needs
 loop-again : tie.Need-loop-again Inv-loop μ-loop
 loop-again c =
     let l = c .before .before .before .before .loop in
-    let s = c .before .before .before .before .before .before .before .before in (
+    let s = c .before .before .before .before .before .before .before .before .before in (
       omega arith,
       c .store-row .ensures .0,
       λ w hw b hb x hx.
@@ -66,15 +66,14 @@ returns : tie.Need-returns Inv-loop μ-loop
 returns c =
     let l = c .before .loop in
     let r = c .before .before .before .before in
-    let s = r .before in
+    let s = r .before .before in
     let a = s .args in
     let e : l .i ≡ a .n = omega arith in
     record {
       values = r .rows .ensures .1;
       sets = λ w hw b hb x hx.
-          l .inv .2 w hw b hb x (omega (arith, s .pre .0 .ins, s .pre .0 .most))
-          ∙ ap (λ (i : ℕ). leb i x && compatibleFrom (outputsLeave (now (a .outs)) (a .p) (bit (getD (now (a .excluded)) w 0) b)) (column (wordsAt (r .rows .result) w) b) (a .n) (gatesOf (now (a .arity)) (now (a .fanins)) (now (a .tables)) (a .m)) x) e
-          ∙ compatible-is (now (a .arity)) (now (a .fanins)) (now (a .tables)) (now (a .excluded)) (now (a .outs)) (a .n) (a .m) (a .p) (s .pre .0) (wordsAt (r .rows .result) w) w (r .rows .ensures .1 w hw) b hb x;
+          (rw e at (l .inv .2 w hw b hb x (omega (arith, s .pre .0 .ins, s .pre .0 .most))))
+          ∙ compatible-is (now (a .arity)) (now (a .fanins)) (now (a .tables)) (now (a .excluded)) (now (a .outs)) (a .n) (a .m) (a .p) (s .pre .0) _ w (r .rows .ensures .1 w hw) b hb x;
     }
 
 pub compatible-rows-spec : {M : Type 1} → statement M

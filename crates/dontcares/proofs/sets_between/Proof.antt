@@ -1,5 +1,6 @@
 -- `dontcares::sets_between` meets its contract. Assumes nothing.
 use borrow.Author.Needs.{needs}
+use mathlib.Core.Path.{refl}
 use Prim.Native.Nat.{_≤_}
 use native.Mathlib.Omega.{arith}
 use Rattle.network.specs.Flat.{currentNet}
@@ -30,20 +31,20 @@ extent-requires c κs = fine (c .before .before .before .before .before) .net .i
 
 rows-requires : tie.Need-rows-requires
 rows-requires c κs =
-    let xt = c .before .before .before in
-    (fine (xt .before .before .before .before .before .before) .net, xt .extent .ensures .cut .words)
+    let xt = c .before .before .before .before in
+    (fine (xt .before .before .before .before .before .before) .net, (xt .extent .ensures .cut .words, refl))
 
 odc-words-requires : tie.Need-odc-words-requires
 odc-words-requires c κs =
     let ro = c .before .before .before .before .before .before in
-    let xt = ro .before .before .before .before in
+    let xt = ro .before .before .before .before .before in
     let p3 = xt .before .before .before .before .before .before in
     let f = fine p3 in
     (f .net, (f .outs, (ro .rows .ensures, (xt .extent .ensures, most p3, p3 .before .before .before .pre .1 .3))))
 
 tables-of-requires : tie.Need-tables-of-requires
 tables-of-requires c κs =
-    let xt = c .before .before .before .before .before .before .before .before .before .before .before .before .before .before .before .before in
+    let xt = c .before .before .before .before .before .before .before .before .before .before .before .before .before .before .before .before .before in
     let p3 = xt .before .before .before .before .before .before in
     let f = fine p3 .net in
     let few = p3 .before .before .before .pre .1 in
@@ -54,7 +55,7 @@ unfolding currentNet
 returns c =
     let ow = c .before .before .before .before .before .before in
     let ro = ow .before .before .before .before .before .before .before in
-    let xt = ro .before .before .before .before in
+    let xt = ro .before .before .before .before .before in
     let p3 = xt .before .before .before .before .before .before in
     let x = p3 .before .before .before in
     let s = x .args .s in

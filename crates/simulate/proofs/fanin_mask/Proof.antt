@@ -7,7 +7,7 @@ use native.Mathlib.Omega.{arith}
 use lib.ListN.{getD}
 use denote.Ref.{now}
 use Rattle.bits.specs.Bit.{bit}
-use Rattle.simulate.proofs.Inversion.{mask-step}
+use Rattle.simulate.proofs.Updates.{mask-step}
 use Rattle.simulate.proofs.fanin_mask.Statement.{statement}
 use Rattle.simulate.proofs.fanin_mask.Tie as tie
 

@@ -7,7 +7,7 @@ use lib.ListN.{length, length-set}
 use denote.Ref.{now}
 use Rattle.simulate.specs.Simulated.{Masked}
 use Rattle.simulate.proofs.Laws.{later}
-use Rattle.simulate.proofs.Inversion.{masked-step}
+use Rattle.simulate.proofs.Updates.{masked-step}
 use Rattle.simulate.proofs.fanin_masks.Statement.{statement}
 use Rattle.simulate.proofs.fanin_masks.Tie as tie
 

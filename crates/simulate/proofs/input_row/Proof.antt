@@ -1,6 +1,6 @@
 -- `simulate::input_row` meets its contract. Assumes nothing.
 use borrow.Author.Needs.{needs}
-use mathlib.Core.Path.{_≡_, refl}
+use mathlib.Core.Path.{_≡_}
 use Prim.Native.Nat.{ℕ, _+_, _-_, _*_, _≤_, _<_}
 use native.Mathlib.Omega.{arith}
 use lib.ListN.{length, getD, length-set}
@@ -10,23 +10,23 @@ use Rattle.simulate.proofs.input_row.Statement.{statement}
 use Rattle.simulate.proofs.input_row.Tie as tie
 
 abbrev Inv-loop : tie.InvT-loop
-Inv-loop i count l₀ w₀ l w =
-    (w ≤ count) × (length l ≡ 16) × ((q b : ℕ) → q < w → b < 64 → bit (getD l q 0) b ≡ bit (q * 64 + b) i)
+Inv-loop i count out₀ w₀ out w =
+    (w ≤ count) × (length out ≡ 16) × ((q b : ℕ) → q < w → b < 64 → bit (getD out q 0) b ≡ bit (q * 64 + b) i)
 
 abbrev μ-loop : tie.MeasureT-loop
-μ-loop i count l₀ w₀ l w = count - w
+μ-loop i count out₀ w₀ out w = count - w
 
 loop-holds : tie.Need-loop-holds Inv-loop μ-loop
-loop-holds c = (omega arith, refl, λ q i h k. absurd (omega arith))
+loop-holds c = (omega arith, c .pre .2, λ q i h k. absurd (omega arith))
 
 input-word-requires : tie.Need-input-word-requires Inv-loop μ-loop
 input-word-requires c κs = search needs
 
-mul-l : tie.Need-mul-l Inv-loop μ-loop
-mul-l c = search needs
+mul-out : tie.Need-mul-out Inv-loop μ-loop
+mul-out c = search needs
 
-array-write-l : tie.Need-array-write-l Inv-loop μ-loop
-array-write-l c = search needs
+element-write-out : tie.Need-element-write-out Inv-loop μ-loop
+element-write-out c = search needs
 
 add-w : tie.Need-add-w Inv-loop μ-loop
 add-w c = search needs
@@ -38,10 +38,10 @@ loop-again : tie.Need-loop-again Inv-loop μ-loop
 loop-again c =
     let l = c .before .before .loop in
     let s = c .before .before .before .args in
-    (omega arith, simp length-set (l .inv .1), filled-bits (l .l) (λ q i. bit (q * 64 + i) (s .i)) (l .w) (c .input-word .result) (omega arith) (l .inv .2) (c .input-word .ensures))
+    (omega arith, simp length-set (l .inv .1), filled-bits (l .out) (λ q i. bit (q * 64 + i) (s .i)) (l .w) (c .input-word .result) (omega arith) (l .inv .2) (c .input-word .ensures))
 
 returns : tie.Need-returns Inv-loop μ-loop
-returns c w i h k = c .before .loop .inv .2 w i (omega arith) k
+returns c = let l = c .before .loop in (l .inv .1, λ w i h k. l .inv .2 w i (omega arith) k)
 
 pub input-row-spec : {M : Type 1} → statement M
 input-row-spec =
@@ -51,8 +51,8 @@ input-row-spec =
     μ-loop
     loop-holds
     input-word-requires
-    mul-l
-    array-write-l
+    mul-out
+    element-write-out
     add-w
     loop-less
     loop-again

@@ -22,82 +22,78 @@ fanin-requires c κs = search needs
 
 row1-requires : tie.Need-row1-requires
 row1-requires c κs =
-    let pl = c .before .before in
+    let pl = c .before .before .before in
     let s = pl .before .before in
     let e : getD (now (s .args .arity)) (s .args .g) 0 ≡ 1 = omega (arith, pl .place .ensures) in
-    (omega arith, omega (arith, c .before .fanin .ensures, s .pre .1 .early 0 (omega arith)))
+    ((omega arith, s .pre .0 .2), omega (arith, c .before .before .fanin .ensures, s .pre .1 .early 0 (omega arith)))
 
 returns : tie.Need-returns
-returns c ts w b hw hb =
-    let pl = c .before .before .before in
+returns c =
+    let pl = c .before .before .before .before in
     let s = pl .before .before in
     let a = s .args in
     let e : getD (now (a .arity)) (a .g) 0 ≡ 1 = omega (arith, pl .place .ensures) in
-    c .row1 .ensures w b hw hb
-    ∙ ap (bit (a .t)) (entry-row (now (a .arity)) (now (a .fanins)) ts (now (a .rows)) (c .before .before .fanin .result ∷ []) (a .g) w b (s .pre .1) (rw (e, c .before .before .fanin .ensures)))
+    (c .row1 .ensures .0, λ ts w b hw hb. c .row1 .ensures .1 w b hw hb ∙ ap (bit (a .t)) (entry-row (now (a .arity)) (now (a .fanins)) ts (now (a .rows)) (c .before .before .before .fanin .result ∷ []) (a .g) w b (s .pre .1) (rw (e, c .before .before .before .fanin .ensures))))
 
 fanin-requires-2 : tie.Need-fanin-requires-2
 fanin-requires-2 c κs = search needs
 
 row2-requires : tie.Need-row2-requires
 row2-requires c κs =
-    let pl = c .before .before .before .before in
+    let pl = c .before .before .before .before .before in
     let s = pl .before .before in
     let e : getD (now (s .args .arity)) (s .args .g) 0 ≡ 2 = omega (arith, pl .place .ensures) in
-    let early : (c .before .before .before .fanin .result < 50) × (c .before .fanin2 .result < 50) =
-    (omega (arith, c .before .before .before .fanin .ensures, s .pre .1 .early 0 (omega arith)), omega (arith, c .before .fanin2 .ensures, s .pre .1 .early 1 (omega arith))) in
-    (omega arith, (omega arith, omega arith))
+    let early : (c .before .before .before .before .fanin .result < 50) × (c .before .before .fanin2 .result < 50) =
+    (omega (arith, c .before .before .before .before .fanin .ensures, s .pre .1 .early 0 (omega arith)), omega (arith, c .before .before .fanin2 .ensures, s .pre .1 .early 1 (omega arith))) in
+    ((omega arith, s .pre .0 .2), (omega arith, omega arith))
 
 returns-2 : tie.Need-returns-2
-returns-2 c ts w b hw hb =
-    let pl = c .before .before .before .before .before in
+returns-2 c =
+    let pl = c .before .before .before .before .before .before in
     let s = pl .before .before in
     let a = s .args in
     let e : getD (now (a .arity)) (a .g) 0 ≡ 2 = omega (arith, pl .place .ensures) in
-    c .row2 .ensures w b hw hb
-    ∙ ap (bit (a .t)) (entry-row (now (a .arity)) (now (a .fanins)) ts (now (a .rows)) (c .before .before .before .before .fanin .result ∷ c .before .before .fanin2 .result ∷ []) (a .g) w b (s .pre .1) (rw (e, c .before .before .before .before .fanin .ensures, c .before .before .fanin2 .ensures)))
+    (c .row2 .ensures .0, λ ts w b hw hb. c .row2 .ensures .1 w b hw hb ∙ ap (bit (a .t)) (entry-row (now (a .arity)) (now (a .fanins)) ts (now (a .rows)) (c .before .before .before .before .before .fanin .result ∷ c .before .before .before .fanin2 .result ∷ []) (a .g) w b (s .pre .1) (rw (e, c .before .before .before .before .before .fanin .ensures, c .before .before .before .fanin2 .ensures))))
 
 fanin-requires-3 : tie.Need-fanin-requires-3
 fanin-requires-3 c κs = search needs
 
 row3-requires : tie.Need-row3-requires
 row3-requires c κs =
-    let pl = c .before .before .before .before .before .before in
+    let pl = c .before .before .before .before .before .before .before in
     let s = pl .before .before in
     let e : getD (now (s .args .arity)) (s .args .g) 0 ≡ 3 = omega (arith, pl .place .ensures) in
-    let early : (c .before .before .before .before .before .fanin .result < 50) × (c .before .before .before .fanin2 .result < 50) × (c .before .fanin3 .result < 50) =
-    (omega (arith, c .before .before .before .before .before .fanin .ensures, s .pre .1 .early 0 (omega arith)), omega (arith, c .before .before .before .fanin2 .ensures, s .pre .1 .early 1 (omega arith)), omega (arith, c .before .fanin3 .ensures, s .pre .1 .early 2 (omega arith))) in
-    (omega arith, (omega arith, omega arith, omega arith))
+    let early : (c .before .before .before .before .before .before .fanin .result < 50) × (c .before .before .before .before .fanin2 .result < 50) × (c .before .before .fanin3 .result < 50) =
+    (omega (arith, c .before .before .before .before .before .before .fanin .ensures, s .pre .1 .early 0 (omega arith)), omega (arith, c .before .before .before .before .fanin2 .ensures, s .pre .1 .early 1 (omega arith)), omega (arith, c .before .before .fanin3 .ensures, s .pre .1 .early 2 (omega arith))) in
+    ((omega arith, s .pre .0 .2), (omega arith, omega arith, omega arith))
 
 returns-3 : tie.Need-returns-3
-returns-3 c ts w b hw hb =
-    let pl = c .before .before .before .before .before .before .before in
+returns-3 c =
+    let pl = c .before .before .before .before .before .before .before .before in
     let s = pl .before .before in
     let a = s .args in
     let e : getD (now (a .arity)) (a .g) 0 ≡ 3 = omega (arith, pl .place .ensures) in
-    c .row3 .ensures w b hw hb
-    ∙ ap (bit (a .t)) (entry-row (now (a .arity)) (now (a .fanins)) ts (now (a .rows)) (c .before .before .before .before .before .before .fanin .result ∷ c .before .before .before .before .fanin2 .result ∷ c .before .before .fanin3 .result ∷ []) (a .g) w b (s .pre .1) (rw (e, c .before .before .before .before .before .before .fanin .ensures, c .before .before .before .before .fanin2 .ensures, c .before .before .fanin3 .ensures)))
+    (c .row3 .ensures .0, λ ts w b hw hb. c .row3 .ensures .1 w b hw hb ∙ ap (bit (a .t)) (entry-row (now (a .arity)) (now (a .fanins)) ts (now (a .rows)) (c .before .before .before .before .before .before .before .fanin .result ∷ c .before .before .before .before .before .fanin2 .result ∷ c .before .before .before .fanin3 .result ∷ []) (a .g) w b (s .pre .1) (rw (e, c .before .before .before .before .before .before .before .fanin .ensures, c .before .before .before .before .before .fanin2 .ensures, c .before .before .before .fanin3 .ensures))))
 
 fanin-requires-4 : tie.Need-fanin-requires-4
 fanin-requires-4 c κs = search needs
 
 row4-requires : tie.Need-row4-requires
 row4-requires c κs =
-    let pl = c .before .before .before .before .before .before .before in
+    let pl = c .before .before .before .before .before .before .before .before in
     let s = pl .before .before in
     let e : getD (now (s .args .arity)) (s .args .g) 0 ≡ 4 = omega (arith, pl .place .ensures, s .pre .1 .some, s .pre .1 .few) in
-    let early : (c .before .before .before .before .before .before .fanin .result < 50) × (c .before .before .before .before .fanin2 .result < 50) × (c .before .before .fanin3 .result < 50) × (c .fanin4 .result < 50) =
-    (omega (arith, c .before .before .before .before .before .before .fanin .ensures, s .pre .1 .early 0 (omega arith)), omega (arith, c .before .before .before .before .fanin2 .ensures, s .pre .1 .early 1 (omega arith)), omega (arith, c .before .before .fanin3 .ensures, s .pre .1 .early 2 (omega arith)), omega (arith, c .fanin4 .ensures, s .pre .1 .early 3 (omega arith))) in
-    (omega arith, (omega arith, omega arith, omega arith, omega arith))
+    let early : (c .before .before .before .before .before .before .before .fanin .result < 50) × (c .before .before .before .before .before .fanin2 .result < 50) × (c .before .before .before .fanin3 .result < 50) × (c .before .fanin4 .result < 50) =
+    (omega (arith, c .before .before .before .before .before .before .before .fanin .ensures, s .pre .1 .early 0 (omega arith)), omega (arith, c .before .before .before .before .before .fanin2 .ensures, s .pre .1 .early 1 (omega arith)), omega (arith, c .before .before .before .fanin3 .ensures, s .pre .1 .early 2 (omega arith)), omega (arith, c .before .fanin4 .ensures, s .pre .1 .early 3 (omega arith))) in
+    ((omega arith, s .pre .0 .2), (omega arith, omega arith, omega arith, omega arith))
 
 returns-4 : tie.Need-returns-4
-returns-4 c ts w b hw hb =
-    let pl = c .before .before .before .before .before .before .before .before in
+returns-4 c =
+    let pl = c .before .before .before .before .before .before .before .before .before in
     let s = pl .before .before in
     let a = s .args in
     let e : getD (now (a .arity)) (a .g) 0 ≡ 4 = omega (arith, pl .place .ensures, s .pre .1 .some, s .pre .1 .few) in
-    c .row4 .ensures w b hw hb
-    ∙ ap (bit (a .t)) (entry-row (now (a .arity)) (now (a .fanins)) ts (now (a .rows)) (c .before .before .before .before .before .before .before .fanin .result ∷ c .before .before .before .before .before .fanin2 .result ∷ c .before .before .before .fanin3 .result ∷ c .before .fanin4 .result ∷ []) (a .g) w b (s .pre .1) (rw (e, c .before .before .before .before .before .before .before .fanin .ensures, c .before .before .before .before .before .fanin2 .ensures, c .before .before .before .fanin3 .ensures, c .before .fanin4 .ensures)))
+    (c .row4 .ensures .0, λ ts w b hw hb. c .row4 .ensures .1 w b hw hb ∙ ap (bit (a .t)) (entry-row (now (a .arity)) (now (a .fanins)) ts (now (a .rows)) (c .before .before .before .before .before .before .before .before .fanin .result ∷ c .before .before .before .before .before .before .fanin2 .result ∷ c .before .before .before .before .fanin3 .result ∷ c .before .before .fanin4 .result ∷ []) (a .g) w b (s .pre .1) (rw (e, c .before .before .before .before .before .before .before .before .fanin .ensures, c .before .before .before .before .before .before .fanin2 .ensures, c .before .before .before .before .fanin3 .ensures, c .before .before .fanin4 .ensures))))
 
 pub lut-row-spec : {M : Type 1} → statement M
 lut-row-spec =

@@ -1,6 +1,6 @@
 -- `simulate::row2` meets its contract. Assumes nothing.
 use borrow.Author.Needs.{needs}
-use mathlib.Core.Path.{_≡_, refl}
+use mathlib.Core.Path.{_≡_}
 use mathlib.Core.List.{[], _∷_}
 use Prim.Native.Nat.{ℕ, _-_, _≤_, _<_}
 use native.Mathlib.Omega.{arith}
@@ -13,14 +13,14 @@ use Rattle.simulate.proofs.row2.Statement.{statement}
 use Rattle.simulate.proofs.row2.Tie as tie
 
 abbrev Inv-loop : tie.InvT-loop
-Inv-loop t rows count a b l₀ w₀ l w =
-    (w ≤ count) × (length l ≡ 16) × ((q i : ℕ) → q < w → i < 64 → bit (getD l q 0) i ≡ bit t (number (valueAt rows a q i ∷ valueAt rows b q i ∷ [])))
+Inv-loop t rows count a b out₀ w₀ out w =
+    (w ≤ count) × (length out ≡ 16) × ((q i : ℕ) → q < w → i < 64 → bit (getD out q 0) i ≡ bit t (number (valueAt rows a q i ∷ valueAt rows b q i ∷ [])))
 
 abbrev μ-loop : tie.MeasureT-loop
-μ-loop t rows count a b l₀ w₀ l w = count - w
+μ-loop t rows count a b out₀ w₀ out w = count - w
 
 loop-holds : tie.Need-loop-holds Inv-loop μ-loop
-loop-holds c = (omega arith, refl, λ q i h k. absurd (omega arith))
+loop-holds c = (omega arith, c .pre .0 .1, λ q i h k. absurd (omega arith))
 
 mul-lut2 : tie.Need-mul-lut2 Inv-loop μ-loop
 mul-lut2 c = search needs
@@ -49,11 +49,11 @@ element-copy-out-lut2-2 c = search needs
 lut2-requires : tie.Need-lut2-requires Inv-loop μ-loop
 lut2-requires c κs = search needs
 
-mul-l : tie.Need-mul-l Inv-loop μ-loop
-mul-l c = search needs
+mul-out : tie.Need-mul-out Inv-loop μ-loop
+mul-out c = search needs
 
-array-write-l : tie.Need-array-write-l Inv-loop μ-loop
-array-write-l c = search needs
+element-write-out : tie.Need-element-write-out Inv-loop μ-loop
+element-write-out c = search needs
 
 add-w : tie.Need-add-w Inv-loop μ-loop
 add-w c = search needs
@@ -65,10 +65,10 @@ loop-again : tie.Need-loop-again Inv-loop μ-loop
 loop-again c =
     let l = c .before .before .before .before .loop in
     let s = c .before .before .before .before .before .args in
-    (omega arith, simp length-set (l .inv .1), filled-bits (l .l) (λ q i. bit (s .t) (number (valueAt (now (s .rows)) (s .a) q i ∷ valueAt (now (s .rows)) (s .b) q i ∷ []))) (l .w) (c .lut2 .result) (omega arith) (l .inv .2) (c .lut2 .ensures))
+    (omega arith, simp length-set (l .inv .1), filled-bits (l .out) (λ q i. bit (s .t) (number (valueAt (now (s .rows)) (s .a) q i ∷ valueAt (now (s .rows)) (s .b) q i ∷ []))) (l .w) (c .lut2 .result) (omega arith) (l .inv .2) (c .lut2 .ensures))
 
 returns : tie.Need-returns Inv-loop μ-loop
-returns c w i h k = c .before .loop .inv .2 w i (omega arith) k
+returns c = let l = c .before .loop in (l .inv .1, λ w i h k. l .inv .2 w i (omega arith) k)
 
 pub row2-spec : {M : Type 1} → statement M
 row2-spec =
@@ -86,8 +86,8 @@ row2-spec =
     mul-lut2-4
     element-copy-out-lut2-2
     lut2-requires
-    mul-l
-    array-write-l
+    mul-out
+    element-write-out
     add-w
     loop-less
     loop-again

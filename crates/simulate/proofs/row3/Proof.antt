@@ -1,6 +1,6 @@
 -- `simulate::row3` meets its contract. Assumes nothing.
 use borrow.Author.Needs.{needs}
-use mathlib.Core.Path.{_≡_, refl}
+use mathlib.Core.Path.{_≡_}
 use mathlib.Core.List.{[], _∷_}
 use Prim.Native.Nat.{ℕ, _-_, _≤_, _<_}
 use native.Mathlib.Omega.{arith}
@@ -13,14 +13,14 @@ use Rattle.simulate.proofs.row3.Statement.{statement}
 use Rattle.simulate.proofs.row3.Tie as tie
 
 abbrev Inv-loop : tie.InvT-loop
-Inv-loop t rows count a b c l₀ w₀ l w =
-    (w ≤ count) × (length l ≡ 16) × ((q i : ℕ) → q < w → i < 64 → bit (getD l q 0) i ≡ bit t (number (valueAt rows a q i ∷ valueAt rows b q i ∷ valueAt rows c q i ∷ [])))
+Inv-loop t rows count a b c out₀ w₀ out w =
+    (w ≤ count) × (length out ≡ 16) × ((q i : ℕ) → q < w → i < 64 → bit (getD out q 0) i ≡ bit t (number (valueAt rows a q i ∷ valueAt rows b q i ∷ valueAt rows c q i ∷ [])))
 
 abbrev μ-loop : tie.MeasureT-loop
-μ-loop t rows count a b c l₀ w₀ l w = count - w
+μ-loop t rows count a b c out₀ w₀ out w = count - w
 
 loop-holds : tie.Need-loop-holds Inv-loop μ-loop
-loop-holds c = (omega arith, refl, λ q i h k. absurd (omega arith))
+loop-holds c = (omega arith, c .pre .0 .1, λ q i h k. absurd (omega arith))
 
 mul-lut3 : tie.Need-mul-lut3 Inv-loop μ-loop
 mul-lut3 c = search needs
@@ -61,11 +61,11 @@ element-copy-out-lut3-3 c = search needs
 lut3-requires : tie.Need-lut3-requires Inv-loop μ-loop
 lut3-requires c κs = search needs
 
-mul-l : tie.Need-mul-l Inv-loop μ-loop
-mul-l c = search needs
+mul-out : tie.Need-mul-out Inv-loop μ-loop
+mul-out c = search needs
 
-array-write-l : tie.Need-array-write-l Inv-loop μ-loop
-array-write-l c = search needs
+element-write-out : tie.Need-element-write-out Inv-loop μ-loop
+element-write-out c = search needs
 
 add-w : tie.Need-add-w Inv-loop μ-loop
 add-w c = search needs
@@ -77,10 +77,10 @@ loop-again : tie.Need-loop-again Inv-loop μ-loop
 loop-again c =
     let l = c .before .before .before .before .before .loop in
     let s = c .before .before .before .before .before .before .args in
-    (omega arith, simp length-set (l .inv .1), filled-bits (l .l) (λ q i. bit (s .t) (number (valueAt (now (s .rows)) (s .a) q i ∷ valueAt (now (s .rows)) (s .b) q i ∷ valueAt (now (s .rows)) (s .c) q i ∷ []))) (l .w) (c .lut3 .result) (omega arith) (l .inv .2) (c .lut3 .ensures))
+    (omega arith, simp length-set (l .inv .1), filled-bits (l .out) (λ q i. bit (s .t) (number (valueAt (now (s .rows)) (s .a) q i ∷ valueAt (now (s .rows)) (s .b) q i ∷ valueAt (now (s .rows)) (s .c) q i ∷ []))) (l .w) (c .lut3 .result) (omega arith) (l .inv .2) (c .lut3 .ensures))
 
 returns : tie.Need-returns Inv-loop μ-loop
-returns c w i h k = c .before .loop .inv .2 w i (omega arith) k
+returns c = let l = c .before .loop in (l .inv .1, λ w i h k. l .inv .2 w i (omega arith) k)
 
 pub row3-spec : {M : Type 1} → statement M
 row3-spec =
@@ -102,8 +102,8 @@ row3-spec =
     mul-lut3-6
     element-copy-out-lut3-3
     lut3-requires
-    mul-l
-    array-write-l
+    mul-out
+    element-write-out
     add-w
     loop-less
     loop-again

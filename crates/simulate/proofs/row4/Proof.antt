@@ -1,6 +1,6 @@
 -- `simulate::row4` meets its contract. Assumes nothing.
 use borrow.Author.Needs.{needs}
-use mathlib.Core.Path.{_≡_, refl}
+use mathlib.Core.Path.{_≡_}
 use mathlib.Core.List.{[], _∷_}
 use Prim.Native.Nat.{ℕ, _-_, _≤_, _<_}
 use native.Mathlib.Omega.{arith}
@@ -13,14 +13,14 @@ use Rattle.simulate.proofs.row4.Statement.{statement}
 use Rattle.simulate.proofs.row4.Tie as tie
 
 abbrev Inv-loop : tie.InvT-loop
-Inv-loop t rows count a b c d l₀ w₀ l w =
-    (w ≤ count) × (length l ≡ 16) × ((q i : ℕ) → q < w → i < 64 → bit (getD l q 0) i ≡ bit t (number (valueAt rows a q i ∷ valueAt rows b q i ∷ valueAt rows c q i ∷ valueAt rows d q i ∷ [])))
+Inv-loop t rows count a b c d out₀ w₀ out w =
+    (w ≤ count) × (length out ≡ 16) × ((q i : ℕ) → q < w → i < 64 → bit (getD out q 0) i ≡ bit t (number (valueAt rows a q i ∷ valueAt rows b q i ∷ valueAt rows c q i ∷ valueAt rows d q i ∷ [])))
 
 abbrev μ-loop : tie.MeasureT-loop
-μ-loop t rows count a b c d l₀ w₀ l w = count - w
+μ-loop t rows count a b c d out₀ w₀ out w = count - w
 
 loop-holds : tie.Need-loop-holds Inv-loop μ-loop
-loop-holds c = (omega arith, refl, λ q i h k. absurd (omega arith))
+loop-holds c = (omega arith, c .pre .0 .1, λ q i h k. absurd (omega arith))
 
 mul-lut4 : tie.Need-mul-lut4 Inv-loop μ-loop
 mul-lut4 c = search needs
@@ -73,11 +73,11 @@ element-copy-out-lut4-4 c = search needs
 lut4-requires : tie.Need-lut4-requires Inv-loop μ-loop
 lut4-requires c κs = search needs
 
-mul-l : tie.Need-mul-l Inv-loop μ-loop
-mul-l c = search needs
+mul-out : tie.Need-mul-out Inv-loop μ-loop
+mul-out c = search needs
 
-array-write-l : tie.Need-array-write-l Inv-loop μ-loop
-array-write-l c = search needs
+element-write-out : tie.Need-element-write-out Inv-loop μ-loop
+element-write-out c = search needs
 
 add-w : tie.Need-add-w Inv-loop μ-loop
 add-w c = search needs
@@ -89,10 +89,10 @@ loop-again : tie.Need-loop-again Inv-loop μ-loop
 loop-again c =
     let l = c .before .before .before .before .before .before .loop in
     let s = c .before .before .before .before .before .before .before .args in
-    (omega arith, simp length-set (l .inv .1), filled-bits (l .l) (λ q i. bit (s .t) (number (valueAt (now (s .rows)) (s .a) q i ∷ valueAt (now (s .rows)) (s .b) q i ∷ valueAt (now (s .rows)) (s .c) q i ∷ valueAt (now (s .rows)) (s .d) q i ∷ []))) (l .w) (c .lut4 .result) (omega arith) (l .inv .2) (c .lut4 .ensures))
+    (omega arith, simp length-set (l .inv .1), filled-bits (l .out) (λ q i. bit (s .t) (number (valueAt (now (s .rows)) (s .a) q i ∷ valueAt (now (s .rows)) (s .b) q i ∷ valueAt (now (s .rows)) (s .c) q i ∷ valueAt (now (s .rows)) (s .d) q i ∷ []))) (l .w) (c .lut4 .result) (omega arith) (l .inv .2) (c .lut4 .ensures))
 
 returns : tie.Need-returns Inv-loop μ-loop
-returns c w i h k = c .before .loop .inv .2 w i (omega arith) k
+returns c = let l = c .before .loop in (l .inv .1, λ w i h k. l .inv .2 w i (omega arith) k)
 
 pub row4-spec : {M : Type 1} → statement M
 row4-spec =
@@ -118,8 +118,8 @@ row4-spec =
     mul-lut4-8
     element-copy-out-lut4-4
     lut4-requires
-    mul-l
-    array-write-l
+    mul-out
+    element-write-out
     add-w
     loop-less
     loop-again

@@ -1,5 +1,5 @@
 -- What is left from word w on has the answer of the whole. Assumes nothing.
-use mathlib.Core.Path.{_≡_, _∙_}
+use mathlib.Core.Path.{_≡_, refl, _∙_}
 use Prim.Native.Nat.{_-_, _≤_}
 use native.Mathlib.Omega.{arith}
 use borrow.Author.Needs.{needs}
@@ -27,49 +27,52 @@ mask-requires : tie.Need-mask-requires Inv-loop μ-loop
 mask-requires c κs = c .size .ensures .places
 
 rows-requires : tie.Need-rows-requires Inv-loop μ-loop
-rows-requires c κs = let size = c .before in (size .before .pre .0, size .size .ensures .words)
+rows-requires c κs = let size = c .before .before in (size .before .pre .0, (size .size .ensures .words, refl))
 
-rows-requires-2 : tie.Need-rows-requires-2 Inv-loop μ-loop
-rows-requires-2 c κs = let size = c .before .before in (size .before .pre .0, size .size .ensures .words)
+update-requires : tie.Need-update-requires Inv-loop μ-loop
+update-requires c κs =
+    let rows = c .before in
+    let size = rows .before .before .before in
+    (size .before .pre .0, ((size .size .ensures .words, rows .rows .ensures .0), rows .rows .ensures .1))
 
 loop-holds : tie.Need-loop-holds Inv-loop μ-loop
 loop-holds c =
-    let size = c .before .before .before in
+    let size = c .before .before .before .before .before in
     let a = size .before .args in
     (omega arith, harm-start (a .arity .now) (a .fanins .now) (a .loaded .now) (a .tables .now) (a .n) (a .m) (a .excluded .now) (a .outs .now) (a .p) _ _ (size .size .ensures))
 
 mul-invert : tie.Need-mul-invert Inv-loop μ-loop
-mul-invert c = omega (arith, c .before .before .before .before .before .size .ensures .words)
+mul-invert c = omega (arith, c .before .before .before .before .before .before .before .size .ensures .words)
 
 element-copy-out-invert : tie.Need-element-copy-out-invert Inv-loop μ-loop
-element-copy-out-invert c = omega (arith, c .before .before .before .before .before .size .ensures .words)
+element-copy-out-invert c = omega (arith, c .before .before .before .before .before .before .before .size .ensures .words)
 
 invert-requires : tie.Need-invert-requires Inv-loop μ-loop
 invert-requires c κs = search needs
 
 compare-requires : tie.Need-compare-requires Inv-loop μ-loop
 compare-requires c κs =
-    let size = c .before .before .before .before .before .before .before .before .before in
+    let size = c .before .before .before .before .before .before .before .before .before .before .before in
     let s = size .before in
     (outputs-fit (s .pre .0) (s .pre .1), omega (arith, size .size .ensures .words))
 
 -- the answer of a word, by the tests of the whole search
 answer : (c : tie.After-compare Inv-loop μ-loop) →
     let at = c .before .before .before .before .before .before in
-    let a = at .before .before .before .before .before .args in
+    let a = at .before .before .before .before .before .before .before .args in
     c .compare .result ≡ wordHarm (tests (a .arity .now) (a .fanins .now) (a .loaded .now) (a .tables .now) (a .n) (a .m) (a .excluded .now) (a .outs .now) (a .p)) (a .p) (at .loop .w)
 answer c =
     let inv = c .before .before .before in
     let test = inv .before .before in
     let ys = test .before .before in
-    let xs = ys .before in
-    let mask = xs .before in
+    let xs = ys .before .before in
+    let mask = xs .before .before in
     let size = mask .before in
     let s = size .before in
     let a = s .args in
     c .compare .ensures
     ∙ word-harms (a .arity .now) (a .fanins .now) (a .loaded .now) (a .tables .now) (a .n) (a .m) (a .excluded .now) (a .outs .now) (a .p) _ _ _ _ _ _ _
-    (size .size .ensures) (mask .mask .ensures .1) (inv .invert .ensures) (test .loop-test .taken) (xs .rows .ensures .1 _ (test .loop-test .taken)) (ys .rows2 .ensures .1 _ (test .loop-test .taken)) (s .pre .1)
+    (size .size .ensures) (mask .mask .ensures .1) (inv .invert .ensures) (test .loop-test .taken) (xs .rows .ensures .1 _ (test .loop-test .taken)) (ys .update .ensures .1 _ (test .loop-test .taken)) (s .pre .1)
 
 enum-told : tie.Need-enum-told Inv-loop μ-loop
 enum-told c = search needs
@@ -105,7 +108,7 @@ network-harm-spec =
     size-requires
     mask-requires
     rows-requires
-    rows-requires-2
+    update-requires
     loop-holds
     mul-invert
     element-copy-out-invert
