@@ -1,114 +1,81 @@
 // Rule 6: the edge tables. Entry t of the edge table of fan-in r is set where the gate frees fan-in r at entry t.
+// All entries of a gate at once: a word has a bit for each, and word f is of the set f of fan-ins.
 ghost use mathlib.Core.Path.{_≡_};
-ghost use mathlib.Core.Bool.{_&&_};
-ghost use Prim.Native.Nat.{ℕ, _+_, _*_, _^_, _<_, _≤_};
-ghost use lib.Dec.{ltb};
+ghost use Prim.Native.Nat.{ℕ, _+_, _^_, _<_, _≤_};
+ghost use lib.Bits.{bitXor};
 ghost use lib.ListN.{length, getD};
-ghost use Rattle.bits.specs.Bit.{bit, tableOf};
-ghost use Rattle.network.specs.Compatible.{agree, constant, turns};
-ghost use Rattle.edges.specs.Edges.{edgeTable, Edged};
+ghost use Rattle.bits.specs.Bit.{bit};
+ghost use Rattle.edges.specs.Edges.{edgeTable, Edged, Constants, Doubled, Halved};
 
-// The entries that have t's value at each of the k fan-ins that is not free, as a word.
-fn agreeing(k: usize, free: u64, t: u64) -> u64
-    requires { ⌜ k ≤ 4 ⌝ }
-    ensures { λ l. ⌜ ((u : ℕ) → u < 64 → bit l u ≡ (ltb u (2 ^ k) && agree k free t u)) ⌝ }
+// At each entry: the bit of x at the entry with fan-in r turned.
+fn turned(x: u64, r: usize) -> u64
+    requires { ⌜ r < 6 ⌝ }
+    ensures { λ y. ⌜ ((t : ℕ) → t < 64 → bit y t ≡ bit x (bitXor t (2 ^ r))) ⌝ }
 {
-    let mut acc = bits::mask(1 << k);
+    let step: usize = 1 << r;
+    bits::mux(bits::input_word(r, 0), x << step, x >> step)
+}
+
+// From the words of the sets of fan-ins below r, those of the same sets with r.
+fn double(words: &mut [u64; 16], r: usize, like: u64)
+    requires { ⌜ r < 4 ⌝ }
+    requires { ⌜ length (now words) ≡ 16 ⌝ }
+    ensures { λ _. ⌜ (length (now (words .exit)) ≡ 16) × Doubled (now (words .entry)) (now (words .exit)) r like (2 ^ r) ⌝ }
+{
+    let size: usize = 1 << r;
+    let mut f = 0;
+    while f < size {
+        let w = words[f];
+        words[size + f] = w & turned(w, r) & like;
+        f += 1;
+    }
+}
+
+// For each set of fan-ins, the entries at which the table is constant over all their values, the rest held.
+// All four fan-ins are counted: a gate that has fewer finds its sets first.
+fn constants(table: u64) -> [u64; 16]
+    ensures { λ l. ⌜ Constants table l 16 ⌝ }
+{
+    let mut words = [0u64; 16];
+    words[0] = 0xffff_ffff_ffff_ffff;
     let mut r = 0;
-    while r < k {
-        let place = r as u64;
-        let x = bits::bit_of(t, place);
-        let same = bits::same(bits::input_word(r, 0), x);
-        acc = acc & (bits::fill(free >> place) | same);
+    while r < 4 {
+        let like = bits::invert(table ^ turned(table, r));
+        double(&mut words, r, like);
         r += 1;
     }
-    acc
+    words
 }
 
-// The table is constant over all values of the free fan-ins, the rest held as in t.
-fn is_constant(k: usize, table: u64, free: u64, t: u64) -> bool
-    requires { ⌜ (k ≤ 4) × (t < 64) ⌝ }
-    ensures { λ b. ⌜ b ≡ constant k table free t ⌝ }
+// Of each two words, at each entry: the second where free has a 1, the first where it has a 0.
+fn halve(words: &mut [u64; 16], size: usize, free: u64)
+    requires { ⌜ size ≤ 8 ⌝ }
+    requires { ⌜ length (now words) ≡ 16 ⌝ }
+    ensures { λ _. ⌜ (length (now (words .exit)) ≡ 16) × Halved (now (words .entry)) (now (words .exit)) free size ⌝ }
 {
-    let unlike = table ^ bits::fill(table >> t);
-    let d = unlike & agreeing(k, free, t);
-    d == 0
-}
-
-// The fan-ins that are free at entry t.
-fn free_fanins(k: usize, table: u64, t: u64) -> u64
-    requires { ⌜ (k ≤ 4) × (t < 64) ⌝ }
-    ensures { λ f. ⌜ f ≡ turns k table t k ⌝ }
-{
-    let mut free: u64 = 0;
-    let mut r = 0;
-    while r < k {
-        let own = bits::power(r as u64);
-        let more = free + own;
-        if is_constant(k, table, more, t) {
-            free = more;
-        }
-        r += 1;
+    let mut h = 0;
+    while h < size {
+        let first = words[2 * h];
+        let second = words[2 * h + 1];
+        words[h] = bits::mux(free, second, first);
+        h += 1;
     }
-    free
 }
 
-// The free fan-ins at each entry.
-fn free_sets(k: usize, table: u64) -> [u64; 64]
-    requires { ⌜ k ≤ 4 ⌝ }
-    ensures { λ l. ⌜ ((t : ℕ) → t < 2 ^ k → getD l t 0 ≡ turns k table t k) ⌝ }
-{
-    let end: usize = 1 << k;
-    let mut frees = [0u64; 64];
-    let mut t = 0;
-    while t < end {
-        let f = free_fanins(k, table, t as u64);
-        frees[t] = f;
-        t += 1;
-    }
-    frees
-}
-
-// The edge table of fan-in r, from the free fan-ins at each entry.
-fn edge_table(k: usize, frees: &[u64; 64], r: u64) -> u64
-    requires { ⌜ (k ≤ 4) × (r < 64) ⌝ }
-    ensures { λ e. ⌜ e ≡ tableOf (2 ^ k) (λ t. bit (getD (now (frees .entry)) t 0) r) ⌝ }
-{
-    let end: usize = 1 << k;
-    let mut acc: u64 = 0;
-    let mut t = 0;
-    while t < end {
-        let b = bits::bit_of(frees[t], r);
-        acc = bits::more(acc, t as u64, b);
-        t += 1;
-    }
-    acc
-}
-
-// Lent as a slice, an array shows its length to a proof: nothing else does of one behind a reference.
-fn count(s: &[u64]) -> usize
-    ensures { λ r. ⌜ r ≡ length (now (s .entry)) ⌝ }
-{
-    s.len()
-}
-
-fn long(edges: &[u64; 240])
-    ensures { λ r. ⌜ length (now (edges .entry)) ≡ 240 ⌝ }
-{
-    count(edges);
-}
-
-// The edge tables of a gate, at place at and on.
+// The edge tables of a gate, at place at and on. At the turn of fan-in r, word h is of the fan-ins already free and of those of h, counted from r.
+// Four turns are always taken, which is quicker than to stop after k: what stands past the k tables is not read.
 fn gate_edges(k: usize, table: u64, at: usize, edges: &mut [u64; 240])
     requires { ⌜ (k ≤ 4) × (at + 6 ≤ 240) ⌝ }
+    requires { ⌜ length (now edges) ≡ 240 ⌝ }
     ensures { λ _. ⌜ (length (now (edges .exit)) ≡ 240) × ((r : ℕ) → r < k → getD (now (edges .exit)) (at + r) 0 ≡ edgeTable k table r) × ((q : ℕ) → q < at → getD (now (edges .exit)) q 0 ≡ getD (now (edges .entry)) q 0) ⌝ }
 {
-    long(edges);
-    let frees = free_sets(k, table);
-    let mut r = 0;
-    while r < k {
-        let e = edge_table(k, &frees, r as u64);
-        edges[at + r] = e;
+    let entries = bits::mask(1 << k);
+    let mut words = constants(table);
+    let mut r: usize = 0;
+    while r < 4 {
+        let free = words[1];
+        edges[at + r] = free & entries;
+        halve(&mut words, 1 << (3 - r), free);
         r += 1;
     }
 }

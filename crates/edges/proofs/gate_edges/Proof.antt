@@ -1,33 +1,61 @@
 -- `edges::gate_edges` meets its contract. Assumes nothing.
 use borrow.Author.Needs.{needs}
-use mathlib.Core.Path.{_≡_, refl, _∙_}
-use Prim.Native.Nat.{ℕ, _+_, _-_, _≤_, _<_}
+use mathlib.Core.Path.{_≡_, refl, ap, _∙_}
+use Prim.Native.Nat.{ℕ, _+_, _-_, _*_, _%_, _^_, _≤_, _<_}
 use native.Mathlib.Omega.{arith}
+use lib.Bits.{bitAnd}
 use lib.ListN.{length, getD, length-set}
+use lib.Pow.{pow-mono}
 use lib.Seq.{getD-set-other}
+use Rattle.bits.proofs.Cuts.{one-shl}
+use Rattle.bits.proofs.Ranges.{entries-few}
 use Rattle.edges.specs.Edges.{edgeTable}
-use Rattle.edges.proofs.Laws.{edge-is, filled-from}
+use Rattle.edges.proofs.Laws.{Left, left-all, left-edge, left-more, filled-from}
 use Rattle.edges.proofs.gate_edges.Statement.{statement}
 use Rattle.edges.proofs.gate_edges.Tie as tie
 
+-- half of the words that are left
+half-room : (k r : ℕ) → r < k → k ≤ 4 → 2 ^ (k - 1 - r) ≤ (1 * 2 ^ (3 - r)) % 2 ^ 64
+half-room k r h hk = omega (arith, one-shl (3 - r) 64 (omega arith), pow-mono {i = k - 1 - r} {j = 3 - r} (omega arith))
+
 abbrev Inv-loop : tie.InvT-loop
-Inv-loop k table at edges₀ frees r₀ edges r =
-    (r ≤ k) × (length edges ≡ 240) × ((q : ℕ) → q < r → getD edges (at + q) 0 ≡ edgeTable k table q) × ((q : ℕ) → q < at → getD edges q 0 ≡ getD edges₀ q 0)
+Inv-loop k table at edges₀ entries words₀ r₀ edges words r =
+    (r ≤ 4) × (length edges ≡ 240) × ((q : ℕ) → q < r → q < k → getD edges (at + q) 0 ≡ edgeTable k table q) × ((q : ℕ) → q < at → getD edges q 0 ≡ getD edges₀ q 0)
+    × (entries ≡ 2 ^ (2 ^ k) - 1) × (length words ≡ 16) × (r ≤ k → Left k table words r)
 
 abbrev μ-loop : tie.MeasureT-loop
-μ-loop k table at edges₀ frees r₀ edges r = k - r
+μ-loop k table at edges₀ entries words₀ r₀ edges words r = 4 - r
 
-long-requires : tie.Need-long-requires Inv-loop μ-loop
-long-requires c κs = search needs
+cast-mask : tie.Need-cast-mask Inv-loop μ-loop
+cast-mask c = search needs
 
-free-sets-requires : tie.Need-free-sets-requires Inv-loop μ-loop
-free-sets-requires c κs = search needs
+shl-mask : tie.Need-shl-mask Inv-loop μ-loop
+shl-mask c = search needs
+
+mask-requires : tie.Need-mask-requires Inv-loop μ-loop
+mask-requires c κs =
+    let k = c .args .k in
+    let e : (1 * 2 ^ k) % 2 ^ 32 ≡ 2 ^ k = one-shl k 32 (omega arith) in
+    omega (arith, e, entries-few k (omega arith))
+
+constants-requires : tie.Need-constants-requires Inv-loop μ-loop
+constants-requires c κs = search needs
 
 loop-holds : tie.Need-loop-holds Inv-loop μ-loop
-loop-holds c = (omega arith, c .before .long .ensures, λ q h. absurd (omega arith), λ q h. refl)
+loop-holds c =
+    let s = c .before .before in
+    let a = s .args in (
+      omega arith,
+      s .pre .1,
+      λ q h l. absurd (omega arith),
+      λ q h. refl,
+      c .before .mask .ensures .0 ∙ ap (λ (n : ℕ). 2 ^ n - 1) (one-shl (a .k) 32 (omega arith)),
+      search needs,
+      λ h. left-all (a .k) (a .table) (c .constants .result) (omega arith) (c .constants .ensures),
+    )
 
-edge-table-requires : tie.Need-edge-table-requires Inv-loop μ-loop
-edge-table-requires c κs = search needs
+array-read-free : tie.Need-array-read-free Inv-loop μ-loop
+array-read-free c = search needs
 
 add-edges : tie.Need-add-edges Inv-loop μ-loop
 add-edges c = search needs
@@ -38,6 +66,17 @@ mul-edges c = search needs
 element-write-edges : tie.Need-element-write-edges Inv-loop μ-loop
 element-write-edges c = search needs
 
+sub-halve : tie.Need-sub-halve Inv-loop μ-loop
+sub-halve c = search needs
+
+shl-halve : tie.Need-shl-halve Inv-loop μ-loop
+shl-halve c = search needs
+
+halve-requires : tie.Need-halve-requires Inv-loop μ-loop
+halve-requires c κs =
+    let l = c .before .before .loop in
+    (omega (arith, one-shl (3 - l .r) 64 (omega arith), pow-mono {i = 3 - l .r} {j = 3} (omega arith)), l .inv .5)
+
 add-r : tie.Need-add-r Inv-loop μ-loop
 add-r c = search needs
 
@@ -46,18 +85,22 @@ loop-less c = search needs
 
 loop-again : tie.Need-loop-again Inv-loop μ-loop
 loop-again c =
-    let a = c .before .before .before .before .before .before .before .args in
+    let a = c .before .before .before .before .before .before .args in
     let l = c .before .before .before .loop in
-    let f = c .before .before .before .before .free-sets in
+    let free = bitAnd (getD (l .words) 1 0) (c .before .before .before .before .before .mask .result) in
     let h : a .at + l .r < length (l .edges) = omega arith in (
       omega arith,
       simp length-set (l .inv .1),
-      filled-from (l .edges) (edgeTable (a .k) (a .table)) (a .at) (l .r) (c .edge-table .result) h (l .inv .2) (c .edge-table .ensures ∙ edge-is (a .k) (a .table) (l .r) (f .result) (f .ensures)),
-      λ q lq. getD-set-other (l .edges) (a .at + l .r) q (c .edge-table .result) 0 (λ e. omega arith) ∙ l .inv .3 q lq,
+      filled-from (l .edges) (edgeTable (a .k) (a .table)) (a .at) (l .r) (a .k) free h (l .inv .2)
+          (λ lr. ap (bitAnd (getD (l .words) 1 0)) (l .inv .4) ∙ left-edge (a .k) (a .table) (l .words) (l .r) lr (l .inv .6 (omega arith))),
+      λ q lq. getD-set-other (l .edges) (a .at + l .r) q free 0 (λ e. omega arith) ∙ l .inv .3 q lq,
+      l .inv .4,
+      c .halve .ensures .0,
+      λ lr. left-more (a .k) (a .table) (l .words) (c .halve .last .0) (l .r) _ (omega arith) (half-room (a .k) (l .r) (omega arith) (omega arith)) (c .halve .ensures .1) (l .inv .6 (omega arith)),
     )
 
 returns : tie.Need-returns Inv-loop μ-loop
-returns c = (c .before .loop .inv .1, λ r h. c .before .loop .inv .2 r (omega arith), c .before .loop .inv .3)
+returns c = (c .before .loop .inv .1, λ r h. c .before .loop .inv .2 r (omega arith) h, c .before .loop .inv .3)
 
 pub gate-edges-spec : {M : Type 1} → statement M
 gate-edges-spec =
@@ -65,13 +108,18 @@ gate-edges-spec =
     (tie.spec
     Inv-loop
     μ-loop
-    long-requires
-    free-sets-requires
+    cast-mask
+    shl-mask
+    mask-requires
+    constants-requires
     loop-holds
-    edge-table-requires
+    array-read-free
     add-edges
     mul-edges
     element-write-edges
+    sub-halve
+    shl-halve
+    halve-requires
     add-r
     loop-less
     loop-again
