@@ -32,29 +32,15 @@ fn row_of(rows: &[u64; 800], s: usize, count: usize) -> [u64; 16]
     l
 }
 
-// The union of two rows.
-fn union(x: &[u64; 16], y: &[u64; 16], count: usize) -> [u64; 16]
-    requires { ⌜ count ≤ 16 ⌝ }
-    ensures { λ l. ⌜ ((w : ℕ) → w < count → getD l w 0 ≡ bitOr (getD (now (x .entry)) w 0) (getD (now (y .entry)) w 0)) ⌝ }
-{
-    let mut l = [0u64; 16];
-    let mut w = 0;
-    while w < count {
-        l[w] = x[w] | y[w];
-        w += 1;
-    }
-    l
-}
-
-// The set of signal s, intersected with a row.
-fn intersect(hs: &mut [u64; 800], s: usize, row: &[u64; 16], count: usize)
+// The set of signal s, intersected with the union of two rows.
+fn intersect(hs: &mut [u64; 800], s: usize, x: &[u64; 16], y: &[u64; 16], count: usize)
     requires { ⌜ (s < 50) × (count ≤ 16) ⌝ }
     requires { ⌜ length (now hs) ≡ 800 ⌝ }
-    ensures { λ _. ⌜ (length (now (hs .exit)) ≡ 800) × ((w : ℕ) → w < count → wordsAt (now (hs .exit)) w ≡ set (wordsAt (now (hs .entry)) w) s (bitAnd (getD (wordsAt (now (hs .entry)) w) s 0) (getD (now (row .entry)) w 0))) ⌝ }
+    ensures { λ _. ⌜ (length (now (hs .exit)) ≡ 800) × ((w : ℕ) → w < count → wordsAt (now (hs .exit)) w ≡ set (wordsAt (now (hs .entry)) w) s (bitAnd (getD (wordsAt (now (hs .entry)) w) s 0) (bitOr (getD (now (x .entry)) w 0) (getD (now (y .entry)) w 0)))) ⌝ }
 {
     let mut w = 0;
     while w < count {
-        let v = hs[16 * s + w] & row[w];
+        let v = hs[16 * s + w] & (x[w] | y[w]);
         hs[16 * s + w] = v;
         w += 1;
     }
@@ -66,11 +52,12 @@ fn at_outputs(p: usize, outs: &[u8; 8], excluded: &[u64; 16], count: usize) -> [
     requires { ⌜ count ≤ 16 ⌝ }
     ensures { λ l. ⌜ (length l ≡ 800) × ((w b s : ℕ) → w < count → b < 64 → s < 50 → bit (getD (wordsAt l w) s 0) b ≡ outputsLeave (now (outs .entry)) p (bit (getD (now (excluded .entry)) w 0) b) s) ⌝ }
 {
+    let none = [0u64; 16];
     let mut hs = [0xffff_ffff_ffff_ffffu64; 800];
     let mut i = 0;
     while i < p {
         let s = network::place(outs[i]);
-        intersect(&mut hs, s, excluded, count);
+        intersect(&mut hs, s, excluded, &none, count);
         i += 1;
     }
     hs
@@ -97,9 +84,8 @@ fn through_gate(
     let mut r = 0;
     while r < k {
         simulate::lut_row(edges[6 * g + r], arity, fanins, rows, count, g, &mut free);
-        let edge = union(own, &free, count);
         let f = simulate::fanin(fanins, g, r);
-        intersect(hs, f, &edge, count);
+        intersect(hs, f, own, &free, count);
         r += 1;
     }
 }

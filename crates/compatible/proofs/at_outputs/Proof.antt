@@ -3,8 +3,8 @@ use borrow.Author.Needs.{needs}
 use mathlib.Core.Path.{_≡_, refl, ap, _∙_}
 use Prim.Native.Nat.{ℕ, _-_, _≤_, _<_}
 use native.Mathlib.Omega.{arith}
-use lib.Bits.{bitAnd}
-use lib.ListN.{length, getD}
+use lib.Bits.{bitAnd, bitOr, or-zero-r}
+use lib.ListN.{length, getD, set, replicate, getD-replicate}
 use denote.Ref.{now}
 use Rattle.bits.specs.Bit.{bit}
 use Rattle.simulate.specs.Simulated.{wordsAt}
@@ -15,12 +15,12 @@ use Rattle.compatible.proofs.at_outputs.Statement.{statement}
 use Rattle.compatible.proofs.at_outputs.Tie as tie
 
 abbrev Inv-loop : tie.InvT-loop
-Inv-loop p outs excluded count hs₀ i₀ hs i =
+Inv-loop p outs excluded count none hs₀ i₀ hs i =
     (i ≤ p) × (length hs ≡ 800)
     × ((w b s : ℕ) → w < count → b < 64 → s < 50 → bit (getD (wordsAt hs w) s 0) b ≡ outputsLeave outs i (bit (getD excluded w 0) b) s)
 
 abbrev μ-loop : tie.MeasureT-loop
-μ-loop p outs excluded count hs₀ i₀ hs i = p - i
+μ-loop p outs excluded count none hs₀ i₀ hs i = p - i
 
 fits : (c : tie.After-place Inv-loop μ-loop) → c .place .result < 50
 fits c =
@@ -38,24 +38,26 @@ place-requires c κs = search needs
 
 intersect-requires : tie.Need-intersect-requires Inv-loop μ-loop
 intersect-requires c κs =
-    let l = c .before .before .before .before in
-    ((fits (c .before), l .before .pre .1), l .loop .inv .1)
+    let l = c .before .before .before .before .before in
+    ((fits (c .before .before), l .before .pre .1), l .loop .inv .1)
 
 add-i : tie.Need-add-i Inv-loop μ-loop
-add-i c = omega (arith, c .before .before .before .before .before .before .pre .0 .most)
+add-i c = omega (arith, c .before .before .before .before .before .before .before .pre .0 .most)
 
 loop-less : tie.Need-loop-less Inv-loop μ-loop
 loop-less c = search needs
 
 loop-again : tie.Need-loop-again Inv-loop μ-loop
 loop-again c =
-    let pl = c .before .before in
+    let pl = c .before .before .before in
     let l = pl .before .before .before .loop in
     let a = pl .before .before .before .before .args in
-    let f = pl .place .result in (
+    let f = pl .place .result in
+    let alone : (w : ℕ) → w < 16 → bitOr (getD (now (a .excluded)) w 0) (getD (replicate 16 0) w 0) ≡ getD (now (a .excluded)) w 0
+    = λ w h. ap (bitOr (getD (now (a .excluded)) w 0)) (getD-replicate {A = ℕ} 16 w 0 0 h) ∙ or-zero-r (getD (now (a .excluded)) w 0) in (
       omega arith,
       c .intersect .ensures .0,
-      λ w b x hw hb hx. rw (c .intersect .ensures .1 w hw) (start-step (wordsAt (l .hs) w) (now (a .outs)) (l .i) f (bitAnd (getD (wordsAt (l .hs) w) f 0) (getD (now (a .excluded)) w 0)) (getD (now (a .excluded)) w 0) b x
+      λ w b x hw hb hx. rw (c .intersect .ensures .1 w hw ∙ ap (λ (v : ℕ). set (wordsAt (l .hs) w) f (bitAnd (getD (wordsAt (l .hs) w) f 0) v)) (alone w (omega arith))) (start-step (wordsAt (l .hs) w) (now (a .outs)) (l .i) f (bitAnd (getD (wordsAt (l .hs) w) f 0) (getD (now (a .excluded)) w 0)) (getD (now (a .excluded)) w 0) b x
           (omega (arith, fits pl, words-long (l .hs) w)) (pl .place .ensures) refl (l .inv .2 w b x hw hb hx)),
     )
 

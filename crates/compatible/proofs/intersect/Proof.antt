@@ -4,7 +4,7 @@ use mathlib.Core.Path.{sym, ap, _∙_}
 use mathlib.Core.List.{List}
 use Prim.Native.Nat.{ℕ, _+_, _-_, _*_, _≤_}
 use native.Mathlib.Omega.{arith}
-use lib.Bits.{bitAnd}
+use lib.Bits.{bitAnd, bitOr}
 use lib.ListN.{getD}
 use denote.Ref.{now}
 use Rattle.simulate.specs.Simulated.{wordsAt}
@@ -13,13 +13,13 @@ use Rattle.compatible.proofs.intersect.Statement.{statement}
 use Rattle.compatible.proofs.intersect.Tie as tie
 
 abbrev Inv-loop : tie.InvT-loop
-Inv-loop hs₀ s row count w₀ hs w = (w ≤ count) × Stored hs₀ hs (λ v. bitAnd (getD (wordsAt hs₀ v) s 0) (getD row v 0)) s w
+Inv-loop hs₀ s x y count w₀ hs w = (w ≤ count) × Stored hs₀ hs (λ v. bitAnd (getD (wordsAt hs₀ v) s 0) (bitOr (getD x v 0) (getD y v 0))) s w
 
 abbrev μ-loop : tie.MeasureT-loop
-μ-loop hs₀ s row count w₀ hs w = count - w
+μ-loop hs₀ s x y count w₀ hs w = count - w
 
 loop-holds : tie.Need-loop-holds Inv-loop μ-loop
-loop-holds c = let a = c .args in (omega arith, store-first (now (a .hs)) (λ v. bitAnd (getD (wordsAt (now (a .hs)) v) (a .s) 0) (getD (now (a .row)) v 0)) (a .s) (c .pre .1))
+loop-holds c = let a = c .args in (omega arith, store-first (now (a .hs)) (λ v. bitAnd (getD (wordsAt (now (a .hs)) v) (a .s) 0) (bitOr (getD (now (a .x)) v 0) (getD (now (a .y)) v 0))) (a .s) (c .pre .1))
 
 mul-v : tie.Need-mul-v Inv-loop μ-loop
 mul-v c = search needs
@@ -38,6 +38,12 @@ mul-v-3 c = search needs
 
 element-copy-out-v-2 : tie.Need-element-copy-out-v-2 Inv-loop μ-loop
 element-copy-out-v-2 c = search needs
+
+mul-v-4 : tie.Need-mul-v-4 Inv-loop μ-loop
+mul-v-4 c = search needs
+
+element-copy-out-v-3 : tie.Need-element-copy-out-v-3 Inv-loop μ-loop
+element-copy-out-v-3 c = search needs
 
 mul-hs : tie.Need-mul-hs Inv-loop μ-loop
 mul-hs c = search needs
@@ -59,11 +65,11 @@ loop-less c = search needs
 
 loop-again : tie.Need-loop-again Inv-loop μ-loop
 loop-again c =
-    let l = c .before .before .before .loop in
-    let a = c .before .before .before .before .args in
-    let x = getD (now (a .row)) (l .w) 0 in (
+    let l = c .before .before .before .before .loop in
+    let a = c .before .before .before .before .before .args in
+    let x = bitOr (getD (now (a .x)) (l .w) 0) (getD (now (a .y)) (l .w) 0) in (
       omega arith,
-      store-step (now (a .hs)) (l .hs) (λ v. bitAnd (getD (wordsAt (now (a .hs)) v) (a .s) 0) (getD (now (a .row)) v 0)) (a .s) (l .w) (bitAnd (getD (l .hs) (16 * a .s + l .w) 0) x) (omega arith) (omega arith) (l .inv .1)
+      store-step (now (a .hs)) (l .hs) (λ v. bitAnd (getD (wordsAt (now (a .hs)) v) (a .s) 0) (bitOr (getD (now (a .x)) v 0) (getD (now (a .y)) v 0))) (a .s) (l .w) (bitAnd (getD (l .hs) (16 * a .s + l .w) 0) x) (omega arith) (omega arith) (l .inv .1)
           (ap (λ (y : ℕ). bitAnd y x) (sym (words-at (l .hs) (l .w) (a .s) (omega arith)) ∙ ap (λ (z : List ℕ). getD z (a .s) 0) (l .inv .1 .2 (l .w) (omega arith) (omega arith)))),
     )
 
@@ -85,6 +91,8 @@ intersect-spec =
     element-copy-out-v
     mul-v-3
     element-copy-out-v-2
+    mul-v-4
+    element-copy-out-v-3
     mul-hs
     add-hs
     mul-hs-2

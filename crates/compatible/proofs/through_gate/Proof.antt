@@ -34,7 +34,7 @@ few c = omega (arith, c .place .ensures, c .before .before .pre .1 .0 .few)
 
 early : (c : tie.After-fanin Inv-loop μ-loop) → c .fanin .result < 50
 early c =
-    let l = c .before .before .before .before .before .before .before in
+    let l = c .before .before .before .before .before in
     let pl = l .before in
     omega (arith, c .fanin .ensures, pl .before .before .pre .1 .0 .early (l .loop .r) (omega (arith, pl .place .ensures)))
 
@@ -65,20 +65,17 @@ lut-row-requires c κs =
     let s = l .before .before .before in
     ((s .pre .0 .0, s .pre .0 .1, l .loop .inv .1), s .pre .1 .0)
 
-union-requires : tie.Need-union-requires Inv-loop μ-loop
-union-requires c κs = c .before .before .before .before .before .before .before .before .pre .0 .1
-
 fanin-requires : tie.Need-fanin-requires Inv-loop μ-loop
-fanin-requires c κs = (omega arith, omega (arith, few (c .before .before .before .before .before .before .before)))
+fanin-requires c κs = (omega arith, omega (arith, few (c .before .before .before .before .before)))
 
 intersect-requires : tie.Need-intersect-requires Inv-loop μ-loop
 intersect-requires c κs =
     let f = c .before .before in
-    let l = f .before .before .before .before .before .before .before in
+    let l = f .before .before .before .before .before in
     ((early f, l .before .before .before .pre .0 .1), l .loop .inv .2)
 
 add-r : tie.Need-add-r Inv-loop μ-loop
-add-r c = omega (arith, few (c .before .before .before .before .before .before .before .before .before .before .before))
+add-r c = omega (arith, few (c .before .before .before .before .before .before .before .before .before))
 
 loop-less : tie.Need-loop-less Inv-loop μ-loop
 loop-less c = search needs
@@ -86,16 +83,15 @@ loop-less c = search needs
 loop-again : tie.Need-loop-again Inv-loop μ-loop
 loop-again c =
     let f = c .before .before .before in
-    let u = f .before in
-    let t = u .before .before in
+    let t = f .before in
     let l = t .before .before .before .before .loop in
     let a = t .before .before .before .before .before .before .before .args in (
       omega arith,
       t .lut-row .ensures .0,
       c .intersect .ensures .0,
       λ ts w b s hw hb. rw (c .intersect .ensures .1 w hw) (edge-step (now (a .fanins)) (now (a .edges)) (wordsAt (l .hs) w) (wordsAt (now (a .hs)) w) (a .g) (getD (now (a .own)) w 0) (l .r) (f .fanin .result)
-          (bitAnd (getD (wordsAt (l .hs) w) (f .fanin .result) 0) (getD (u .union .result) w 0)) (getD (u .union .result) w 0) _ b (entry (column (wordsAt (now (a .rows)) w) b) (gateAt (now (a .arity)) (now (a .fanins)) ts (a .g))) s
-          (omega (arith, early f, words-long (l .hs) w)) (f .fanin .ensures) refl (u .union .ensures w hw) (t .lut-row .ensures .1 ts w b hw hb) (l .inv .3 ts w b s hw hb)),
+          _ _ _ b (entry (column (wordsAt (now (a .rows)) w) b) (gateAt (now (a .arity)) (now (a .fanins)) ts (a .g))) s
+          (omega (arith, early f, words-long (l .hs) w)) (f .fanin .ensures) refl refl (t .lut-row .ensures .1 ts w b hw hb) (l .inv .3 ts w b s hw hb)),
     )
 
 returns : tie.Need-returns Inv-loop μ-loop
@@ -123,7 +119,6 @@ through-gate-spec =
     mul-lut-row-2
     element-copy-out-lut-row
     lut-row-requires
-    union-requires
     fanin-requires
     intersect-requires
     add-r
