@@ -71,7 +71,7 @@ written-length s h =
 -- ## Loaded
 
 module _ (u : Session) where
-  outputs-end : (c i : ℕ) (t : Session) (rest : List ℕ) → readOutputs c i t rest ≡ loadDone u → length rest ≡ 3 * c
+  pub outputs-end : (c i : ℕ) (t : Session) (rest : List ℕ) → readOutputs c i t rest ≡ loadDone u → length rest ≡ 3 * c
   unfolding readOutputs outputRecord
   outputs-end zero i t rest h =
       let w = went (refuseIf (leb 1 (length rest)) TrailingBytes) (loadDone t) u h in

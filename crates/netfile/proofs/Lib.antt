@@ -5,6 +5,7 @@ pub mod OutputsBack
 pub mod RoundTrip
 pub mod Prefix
 pub mod Lengths
+pub mod Truncation
 pub mod Steps
 pub mod Marks
 pub mod Records

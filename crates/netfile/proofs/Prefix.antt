@@ -19,7 +19,7 @@ use Rattle.netfile.proofs.WordsBack.{set-bytes-most}
 
 -- ## The front of a list
 
-drop-take : (m n : ℕ) (l : List ℕ) → drop m (take n l) ≡ take (n - m) (drop m l)
+pub drop-take : (m n : ℕ) (l : List ℕ) → drop m (take n l) ≡ take (n - m) (drop m l)
 drop-take zero n l = let q : n - 0 ≡ n = omega arith in rw q
 drop-take (suc m) zero l = let q : 0 - suc m ≡ 0 = omega arith in rw q
 drop-take (suc m) (suc n) [] = sym (take-nil (suc n - suc m))
@@ -34,26 +34,26 @@ module _ (N : ℕ) (l : List ℕ) where
       go (yes h) = rw (take-all N l (omega arith)) a
       go (no h) = f (omega arith) (length-take-le N l (omega arith))
 
-  ltb-cut : (size : ℕ) → size ≤ N → ltb (length (take N l)) size ≡ ltb (length l) size
+  pub ltb-cut : (size : ℕ) → size ≤ N → ltb (length (take N l)) size ≡ ltb (length l) size
   ltb-cut size h = by-length (λ x. ltb (length x) size ≡ ltb (length l) size) refl (λ a b. rw (b, le-ltb N size h, le-ltb (length l) size (omega arith)))
 
   leb-cut : (size : ℕ) → size ≤ N → leb size (length (take N l)) ≡ leb size (length l)
   leb-cut size h = by-length (λ x. leb size (length x) ≡ leb size (length l)) refl (λ a b. rw (b, le-leb size N h, le-leb size (length l) (omega arith)))
 
-  mark-cut : (due : ℕ) → 2 ≤ N → markTest due (take N l) ≡ markTest due l
+  pub mark-cut : (due : ℕ) → 2 ≤ N → markTest due (take N l) ≡ markTest due l
   unfolding markTest
   mark-cut due h = rw (ltb-cut 2 h, getD-take N l 0 0 (omega arith), getD-take N l 1 0 (omega arith))
 
   -- ## One record
 
-  output-cut : (signals : ℕ) → 3 ≤ N → outputRecord signals (take N l) ≡ outputRecord signals l
+  pub output-cut : (signals : ℕ) → 3 ≤ N → outputRecord signals (take N l) ≡ outputRecord signals l
   unfolding outputRecord
   output-cut signals h = rw (mark-cut 0x4E4F (omega arith), ltb-cut 3 h, getD-take N l 2 0 (omega arith))
 
-  excluded-cut : 2 ≤ N → isExcluded (take N l) ≡ isExcluded l
+  pub excluded-cut : 2 ≤ N → isExcluded (take N l) ≡ isExcluded l
   excluded-cut h = rw (leb-cut 2 h, getD-take N l 0 0 (omega arith), getD-take N l 1 0 (omega arith))
 
-  header-cut : 5 ≤ N → headerRecord (take N l) ≡ headerRecord l
+  pub header-cut : 5 ≤ N → headerRecord (take N l) ≡ headerRecord l
   unfolding headerRecord
   header-cut h =
       rw (mark-cut 0x4E49 (omega arith), ltb-cut 5 h, getD-take N l 2 0 (omega arith), getD-take N l 3 0 (omega arith), getD-take N l 4 0 (omega arith))
@@ -62,32 +62,46 @@ module _ (N : ℕ) (l : List ℕ) where
 inner-cut : (N m k : ℕ) (l : List ℕ) → m + k ≤ N → take k (drop m (take N l)) ≡ take k (drop m l)
 inner-cut N m k l h = rw (drop-take m N l) (take-take k (N - m) (drop m l) (omega arith))
 
+pub set-cut : (N n : ℕ) (l : List ℕ) → 2 + setBytes n ≤ N → excludedRecord n (take N l) ≡ excludedRecord n l
+unfolding excludedRecord
+set-cut N n l h = rw (inner-cut N 2 (setBytes n) l h, drop-take 2 N l, ltb-cut (N - 2) (drop 2 l) (setBytes n) (omega arith))
+
+-- the gates behind the set
+pub set-next : (N c : ℕ) (t : Session) (l : List ℕ) → 2 + setBytes (t .n) ≤ N
+    → readGates c 0 (withExcluded t (excludedIn (t .n) (take N l))) (drop (setBytes (t .n)) (drop 2 (take N l)))
+    ≡ readGates c 0 (withExcluded t (excludedIn (t .n) l)) (take (N - 2 - setBytes (t .n)) (drop (setBytes (t .n)) (drop 2 l)))
+set-next N c t l h =
+    let z = setBytes (t .n) in
+    rw (inner-cut N 2 z l h, drop-take 2 N l, drop-take z (N - 2) (drop 2 l))
+
 or-ext : (a b b' : Answer) → (a ≡ Done → b ≡ b') → orElse a b ≡ orElse a b'
 or-ext Done b b' f = f refl
 or-ext (Refused r) b b' f = refl
 
-module _ (N : ℕ) (l : List ℕ) (long : 9 ≤ N) where
-  gate-cut : (limit : ℕ) → gateRecord limit (take N l) ≡ gateRecord limit l
+-- N takes in the whole record, which is up to 9 bytes long
+module _ (N : ℕ) (l : List ℕ) (three : 3 ≤ N) (long : getD l 2 0 ≤ 4 → getD l 2 0 + 5 ≤ N) where
+  pub gate-cut : (limit : ℕ) → gateRecord limit (take N l) ≡ gateRecord limit l
   unfolding gateRecord
   gate-cut limit =
       let k = getD l 2 0 in
       rw (mark-cut N l 0x4E47 (omega arith), ltb-cut N l 3 (omega arith), getD-take N l 2 0 (omega arith))
       (ap (λ (x : Answer). orElse (markTest 0x4E47 l) (orElse (lengthTest 3 l) x)) (or-ext (countTest 4 k) _ _ (λ e.
-      let b = count-e 4 k e in
+      let b = long (count-e 4 k e .1) in
       rw (drop-take 3 N l, ltb-cut (N - 3) (drop 3 l) (k + 2) (omega arith), take-take k (N - 3) (drop 3 l) (omega arith), inner-cut (N - 3) k 2 (drop 3 l) (omega arith)))))
 
   -- the gate's stores, and what is left behind it
-  gate-next : (t : Session) (g c : ℕ) → getD l 2 0 ≤ 4
+  pub gate-next : (t : Session) (g c : ℕ) → getD l 2 0 ≤ 4
       → readGates c (g + 1) (withGate t g (getD (take N l) 2 0) (faninsIn (take N l)) (tableIn (take N l))) (drop 2 (afterFanins (take N l)))
       ≡ readGates c (g + 1) (withGate t g (getD l 2 0) (faninsIn l) (tableIn l)) (take (N - 3 - getD l 2 0 - 2) (drop 2 (afterFanins l)))
   gate-next t g c h =
       let k = getD l 2 0 in
+      let b = long h in
       rw (getD-take N l 2 0 (omega arith), drop-take 3 N l, take-take k (N - 3) (drop 3 l) (omega arith), inner-cut (N - 3) k 2 (drop 3 l) (omega arith))
       (rw (drop-take k (N - 3) (drop 3 l), drop-take 2 (N - 3 - k) (drop k (drop 3 l))))
 
 -- ## Record after record
 
-output-next : (c N i : ℕ) (t : Session) (l : List ℕ) → 3 ≤ N
+pub output-next : (c N i : ℕ) (t : Session) (l : List ℕ) → 3 ≤ N
     → readOutputs c (i + 1) (withOutput t i (getD (take N l) 2 0)) (drop 3 (take N l)) ≡ readOutputs c (i + 1) (withOutput t i (getD l 2 0)) (take (N - 3) (drop 3 l))
 output-next c N i t l h = rw (getD-take N l 2 0 (omega arith), drop-take 3 N l)
 
@@ -103,19 +117,20 @@ gates-cut : (c N g : ℕ) (t : Session) (l : List ℕ) → 9 * c + 3 * t .p + 1 
 unfolding readGates gateRecord
 gates-cut zero N g t l h = outputs-cut (t .p) N 0 t l (omega arith)
 gates-cut (suc c) N g t l h =
-    rw (gate-cut N l (omega arith) (t .n + g))
+    let long : getD l 2 0 ≤ 4 → getD l 2 0 + 5 ≤ N = λ b. omega arith in
+    rw (gate-cut N l (omega arith) long (t .n + g))
     (onward-ext (gateRecord (t .n + g) l) _ _ (λ e.
     let k = getD l 2 0 in
     let b = count-e 4 k (clear-e (gateTests (t .n + g) l) e .1 .1 .0) in
-    gate-next N l (omega arith) t g c (b .1)
+    gate-next N l (omega arith) long t g c (b .1)
     ∙ gates-cut c (N - 3 - k - 2) (g + 1) (withGate t g k (faninsIn l) (tableIn l)) (drop 2 (afterFanins l)) (omega arith)))
 
 body-cut : (N : ℕ) (t : Session) (l : List ℕ) → t .n ≤ 10 → 9 * t .m + 3 * t .p + 131 ≤ N → readBody t (take N l) ≡ readBody t l
-unfolding readBody excludedRecord
+unfolding readBody
 body-cut N t l few h =
     let z = setBytes (t .n) in
     let most = set-bytes-most (t .n) few in
-    rw (excluded-cut N l (omega arith), drop-take 2 N l, ltb-cut (N - 2) (drop 2 l) z (omega arith), take-take z (N - 2) (drop 2 l) (omega arith), drop-take z (N - 2) (drop 2 l))
+    rw (excluded-cut N l (omega arith), set-cut N (t .n) l (omega arith), set-next N (t .m) t l (omega arith))
     (rw (gates-cut (t .m) (N - 2 - z) 0 (withExcluded t (excludedIn (t .n) l)) (drop z (drop 2 l)) (omega arith), gates-cut (t .m) N 0 t l (omega arith)))
 
 read-cut : (N : ℕ) (l : List ℕ) → 520 ≤ N → readOf (take N l) ≡ readOf l

@@ -1,16 +1,17 @@
--- 01, 'The file': a session that passes refusal 10's test, written and read again, is the same network; and how many bytes can matter.
+-- 01, 'The file': a session that passes refusal 10's test, written and read again, is the same network; and which bytes matter.
 -- The same network: the records `Net` are equal, in counts, fan-ins, tables, outputs and excluded set. Assumes nothing.
 use mathlib.Core.Path.{_≡_}
 use mathlib.Core.List.{List}
-use Prim.Native.Nat.{ℕ, _≤_}
+use Prim.Native.Nat.{ℕ, _≤_, _<_}
 use lib.ListN.{length, take}
 use Rattle.network.specs.declared.Session.{Session}
 use Rattle.network.specs.declared.Loaded.{Loaded}
 use Rattle.network.specs.declared.Answer.the-variants.{Done}
+use Rattle.network.specs.declared.Refusal.the-variants.{Truncated}
 use Rattle.network.specs.Flat.{loadedNet, currentNet}
 use Rattle.network.specs.Valid.{Shaped}
 use Rattle.network.specs.State.{stateFault}
-use Rattle.network.specs.Load.{loadDone, readOf, loadOf}
+use Rattle.network.specs.Load.{loadDone, loadRefused, readOf, loadOf}
 use Rattle.network.specs.Write.{bytesOf}
 
 -- s written and read again is a session whose loaded and whose current network are the current one of s
@@ -34,3 +35,7 @@ LoadedLength = (bytes : List ℕ) (s : Session) → loadOf bytes ≡ loadDone s 
 -- the first 520 bytes decide what load answers
 abbrev pub Prefix : Type 0
 Prefix = (bytes : List ℕ) → loadOf (take 520 bytes) ≡ loadOf bytes
+
+-- a file that loads, cut short anywhere, is refused with 1
+abbrev pub Truncation : Type 0
+Truncation = (bytes : List ℕ) (s : Session) (i : ℕ) → loadOf bytes ≡ loadDone s → i < length bytes → loadOf (take i bytes) ≡ loadRefused Truncated

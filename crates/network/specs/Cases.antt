@@ -1,69 +1,24 @@
--- Cases of the definitions, each computed and held against what is stated: 01's (m) cases, document 004's examples, damaged files.
--- A case is a pair: what the definitions give, and what the document says. Assumes nothing.
+-- Cases of the definitions, each computed and held against what is stated: 01's (m) cases, document 004's
+-- examples, more than 64 patterns, refused calls, damaged files. A case is a pair: what the definitions give, and what is stated.
+-- Assumes nothing.
+use mathlib.Core.Path.{_≡_}
 use mathlib.Core.Bool.{Bool}
-use mathlib.Core.List.{List, [], _∷_, _++_}
+use mathlib.Core.List.{List, [], _∷_, _++_, map}
 use Prim.Native.Nat.{ℕ}
 use lib.ListN.{take, drop, set, replicate}
 use lib.Seq.{sets}
 use Rattle.bits.specs.Bit.{tableOf}
 use Rattle.network.specs.declared.Session.{Session}
-use Rattle.network.specs.Net.{Gate, Net, gate, patterns, Replacement, replaced}
+use Rattle.network.specs.Net.{Net, gate, patterns, Replacement, replaced}
 use Rattle.network.specs.DontCares.{sdc, cdc, odc, full}
 use Rattle.network.specs.Compatible.{freeFanins, compatible, compatibleCount, openTable}
+use Rattle.network.specs.Flat.{loadedNet}
 use Rattle.network.specs.Refusals.{said}
-use Rattle.network.specs.Load.{loadOf}
+use Rattle.network.specs.Load.{readOf, loadOf}
 use Rattle.network.specs.Write.{bytesOf}
 use Rattle.network.specs.Calls.{exchangeOf, verdictOf, harmTest}
 use Rattle.network.specs.Sessions.{after}
-
--- ## Networks
-
-abbrev pub g : List ℕ → ℕ → Gate
-g fs t = record { fanins = fs; table = t }
-
--- n inputs, one word of excluded patterns, the gates, the outputs
-abbrev pub net : ℕ → ℕ → List Gate → List ℕ → Net
-net n ex gs outs = record { inputs = n; excluded = ex ∷ []; gates = gs; outputs = outs }
-
--- 01's twin network
-abbrev pub twin : Net
-twin = net 1 0 (g (0 ∷ []) 0x2 ∷ g (0 ∷ []) 0x2 ∷ g (1 ∷ 2 ∷ []) 0xE ∷ []) (3 ∷ [])
-
--- 01's case of rule 6: y2·(y1 + y3) over three copied inputs
-abbrev pub freeing : Net
-freeing = net 3 0 (g (0 ∷ []) 0x2 ∷ g (1 ∷ []) 0x2 ∷ g (2 ∷ []) 0x2 ∷ g (3 ∷ 4 ∷ 5 ∷ []) 0xC8 ∷ []) (6 ∷ [])
-
--- X = ab, f = Xb + bY + XY over (X, b, Y), Y an input
-abbrev pub tourFirst : Net
-tourFirst = net 4 0 (g (0 ∷ 1 ∷ []) 0x8 ∷ g (4 ∷ 1 ∷ 2 ∷ []) 0xE8 ∷ []) (5 ∷ [])
-
--- X = ab, Y = b + c, f = Xb + bY + XY over (X, b, Y)
-abbrev pub tourSecond : Net
-tourSecond = net 3 0 (g (0 ∷ 1 ∷ []) 0x8 ∷ g (1 ∷ 2 ∷ []) 0xE ∷ g (3 ∷ 1 ∷ 4 ∷ []) 0xE8 ∷ []) (5 ∷ [])
-
--- document 004's tour: the same, and Z = f·X·d
-abbrev pub tour : Net
-tour = net 4 0 (g (0 ∷ 1 ∷ []) 0x8 ∷ g (1 ∷ 2 ∷ []) 0xE ∷ g (4 ∷ 1 ∷ 5 ∷ []) 0xE8 ∷ g (6 ∷ 4 ∷ 3 ∷ []) 0x80 ∷ []) (7 ∷ [])
-
--- X = ab + c
-abbrev pub sumOfProducts : Net
-sumOfProducts = net 3 0 (g (0 ∷ 1 ∷ 2 ∷ []) 0xF8 ∷ []) (3 ∷ [])
-
--- f over (a, X, Y), X = a + b, Y = ab
-abbrev pub controlThree : Net
-controlThree = net 2 0 (g (0 ∷ 1 ∷ []) 0xE ∷ g (0 ∷ 1 ∷ []) 0x8 ∷ g (0 ∷ 2 ∷ 3 ∷ []) 0x96 ∷ []) (4 ∷ [])
-
--- f over (a, c, X, Y), E = bc
-abbrev pub controlFour : Net
-controlFour = net 3 0xC0 (g (0 ∷ 1 ∷ []) 0xE ∷ g (0 ∷ 1 ∷ []) 0x8 ∷ g (0 ∷ 2 ∷ 3 ∷ 4 ∷ []) 0x6996 ∷ []) (5 ∷ [])
-
--- F = a xor b feeds a gate over (a, b, F, c): its ODC is ab + a'bc
-abbrev pub observe : Net
-observe = net 3 0 (g (0 ∷ 1 ∷ []) 0x6 ∷ g (0 ∷ 1 ∷ 3 ∷ 2 ∷ []) 0xB8F8 ∷ []) (4 ∷ [])
-
--- BCD segment a, the patterns 10 to 15 excluded
-abbrev pub segment : Net
-segment = net 4 0xFC00 (g (0 ∷ 1 ∷ 2 ∷ 3 ∷ []) 0x3ED ∷ []) (4 ∷ [])
+use Rattle.network.specs.Examples.{twin, freeing, tourFirst, tourSecond, tour, sumOfProducts, controlThree, controlFour, observe, segment}
 
 -- ## Files and sessions
 
@@ -75,13 +30,13 @@ twinBytes =
     ∷ 0x4E ∷ 0x47 ∷ 0x02 ∷ 0x01 ∷ 0x02 ∷ 0x0E ∷ 0x00
     ∷ 0x4E ∷ 0x4F ∷ 0x03 ∷ []
 
--- the session with these counts, excluded word, arities, fan-ins, tables, open tables and outputs
-abbrev pub held : ℕ → ℕ → ℕ → ℕ → List ℕ → List ℕ → List ℕ → List ℕ → List ℕ → Session
-held n m p ex ks fs ts os outs = record {
+-- the session with these counts, excluded words, arities, fan-ins, tables, open tables and outputs
+abbrev pub held : ℕ → ℕ → ℕ → List ℕ → List ℕ → List ℕ → List ℕ → List ℕ → List ℕ → Session
+held n m p exs ks fs ts os outs = record {
   n = n;
   m = m;
   p = p;
-  excluded = set (replicate 16 0) 0 ex;
+  excluded = sets (replicate 16 0) 0 exs;
   arity = sets (replicate 40 0) 0 ks;
   fanins = sets (replicate 240 0) 0 fs;
   loaded = sets (replicate 40 0) 0 ts;
@@ -91,7 +46,7 @@ held n m p ex ks fs ts os outs = record {
 }
 
 abbrev pub twinSession : Session
-twinSession = held 1 3 1 0 (1 ∷ 1 ∷ 2 ∷ []) (replicate 12 0 ++ 1 ∷ 2 ∷ []) (0x2 ∷ 0x2 ∷ 0xE ∷ []) (0x2 ∷ 0x0 ∷ 0x2 ∷ []) (3 ∷ [])
+twinSession = held 1 3 1 [] (1 ∷ 1 ∷ 2 ∷ []) (replicate 12 0 ++ 1 ∷ 2 ∷ []) (0x2 ∷ 0x2 ∷ 0xE ∷ []) (0x2 ∷ 0x0 ∷ 0x2 ∷ []) (3 ∷ [])
 
 -- gate 1 is 0 whatever the input, gate 2 its inverse and the output; pattern 0 is excluded
 abbrev pub chainBytes : List ℕ
@@ -103,9 +58,27 @@ chainBytes =
     ∷ 0x4E ∷ 0x4F ∷ 0x02 ∷ []
 
 abbrev pub chainSession : Session
-chainSession = held 1 2 1 1 (1 ∷ 1 ∷ []) (replicate 6 0 ++ 1 ∷ []) (0x0 ∷ 0x1 ∷ []) (0x1 ∷ 0x2 ∷ []) (2 ∷ [])
+chainSession = held 1 2 1 (1 ∷ []) (1 ∷ 1 ∷ []) (replicate 6 0 ++ 1 ∷ []) (0x0 ∷ 0x1 ∷ []) (0x1 ∷ 0x2 ∷ []) (2 ∷ [])
+
+-- gate 7 is the AND of inputs 5 and 6; the patterns 96 to 127, at which it is 1, are excluded, and some of the others
+abbrev pub wideBytes : List ℕ
+wideBytes =
+    0x4E ∷ 0x49 ∷ 0x07 ∷ 0x01 ∷ 0x01
+    ∷ 0x4E ∷ 0x58 ∷ 0x01 ∷ 0x02 ∷ 0x04 ∷ 0x08 ∷ 0x10 ∷ 0x20 ∷ 0x40 ∷ 0x80 ∷ 0x01 ∷ 0x02 ∷ 0x04 ∷ 0x08 ∷ 0xFF ∷ 0xFF ∷ 0xFF ∷ 0xFF
+    ∷ 0x4E ∷ 0x47 ∷ 0x02 ∷ 0x05 ∷ 0x06 ∷ 0x08 ∷ 0x00
+    ∷ 0x4E ∷ 0x4F ∷ 0x07 ∷ []
+
+abbrev pub wideSession : Session
+wideSession = held 7 1 1 (0x8040201008040201 ∷ 0xFFFFFFFF08040201 ∷ []) (2 ∷ []) (5 ∷ 6 ∷ []) (0x8 ∷ []) (0x8 ∷ []) (7 ∷ [])
+
+abbrev pub wideNet : Net
+wideNet = loadedNet wideSession
 
 -- ## Words for the cases
+
+-- each case of the table holds
+abbrev pub Hold : List (List ℕ × List ℕ) → Type 0
+Hold cases = map (λ c. c .0) cases ≡ map (λ c. c .1) cases
 
 -- all numbers of a session, one after the other
 abbrev pub numbers : Session → List ℕ
@@ -201,6 +174,20 @@ worked =
     ∷ (loneSaid tour (to 4 0xE), 14 ∷ 10 ∷ 0 ∷ [])
     ∷ []
 
+-- ## More than 64 patterns
+
+abbrev pub wide : List (List ℕ × List ℕ)
+wide =
+    -- loaded and written
+    (numbers (loadOf wideBytes .session), numbers wideSession)
+    ∷ (bytesOf wideSession, wideBytes)
+    -- entry 3 comes at excluded patterns only; entry 2 comes at 64, which is excluded, and at 65
+    ∷ (cdc wideNet 7 ∷ full wideNet 7 ∷ openTable wideNet 7 ∷ [], 0x0 ∷ 0x8 ∷ 0x8 ∷ [])
+    ∷ (setOf wideNet (compatible wideNet 7) ∷ [], 0xFFFFFFFF080402018040201008040201 ∷ [])
+    ∷ (verdictSaid wideSession [] (to 7 0x0), [])
+    ∷ (verdictSaid wideSession [] (to 7 0xC), 14 ∷ 65 ∷ 0 ∷ [])
+    ∷ []
+
 -- ## Refusals
 
 abbrev pub refused : List (List ℕ × List ℕ)
@@ -216,6 +203,10 @@ refused =
 
 abbrev pub but : ℕ → ℕ → List ℕ
 but i x = set twinBytes i x
+
+-- the case of a file: what reading it answers, in 01's numbers
+abbrev pub readSaid : List ℕ × List ℕ → List ℕ × List ℕ
+readSaid c = (said (readOf (c .0) .answer), c .1)
 
 -- damaged files, with 01's number
 abbrev pub damaged : List (List ℕ × List ℕ)

@@ -10,4 +10,5 @@ pub mod Load
 pub mod Write
 pub mod Calls
 pub mod Sessions
+pub mod Examples
 pub mod Cases

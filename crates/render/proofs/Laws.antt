@@ -18,7 +18,7 @@ use Rattle.netwrite.specs.Laid.{Laid}
 use Rattle.netwrite.proofs.Laws.{laid-append, laid-length}
 use Rattle.render.specs.declared.Columns.{Columns}
 use Rattle.render.specs.Listing.{digit, hex, decimal, header, row, totals, refusedLine}
-use Rattle.render.specs.Text.{number, field, entriesIn, rowAt, rowsAt, setIn, textOf, Ready}
+use Rattle.render.specs.Text.{number, field, entriesIn, rowAt, rowsAt, setIn, textOf}
 
 -- ## Numbers
 
@@ -42,7 +42,7 @@ module _ (x after : ℕ) where
   unfolding number decimal
   four a b c d l k j p q r s = rw (p, q, r, s, le-ltb x 10 l, le-ltb x 100 k, le-ltb x 1000 j)
 
-  length-number : length (number x after) ≤ 5
+  pub length-number : length (number x after) ≤ 5
   unfolding number decimal
   length-number =
       by-cases (ltb x 10) (λ a. rw a (omega arith))
@@ -84,7 +84,7 @@ row-pieces : (s c f o h : ℕ) → row s c f o h ≡ number s 0x20 ++ field c ++
 unfolding row number field
 row-pieces s c f o h = regroup (decimal s) (hex c) (hex f) (hex o) (decimal h) (0x20 ∷ []) (0x0A ∷ [])
 
-length-row : (s c f o h : ℕ) → length (row s c f o h) ≤ 25
+pub length-row : (s c f o h : ℕ) → length (row s c f o h) ≤ 25
 length-row s c f o h =
     rw (row-pieces s c f o h)
     (simp length-append (omega (arith, length-number s 0x20, length-field c, length-field f, length-field o, length-number h 0x0A)))
@@ -159,29 +159,12 @@ pub text-laid : {b b₁ b₂ b₃ : List ℕ} {r₁ r₂ r₃ : ℕ} (t : Column
 unfolding textOf
 text-laid t e k p q u = rw (← e, ← k) (laid-append (laid-append p q) u)
 
-length-totals : (f o : ℕ) → length (totals f o) ≤ 16
+pub length-totals : (f o : ℕ) → length (totals f o) ≤ 16
 length-totals f o =
     rw (totals-pieces f o)
     (simp length-append (omega (arith, length-number f 0x20, length-number o 0x0A)))
-
-pub text-within : {b b₁ : List ℕ} {r : ℕ} (t : Columns) → Ready t → Laid b 0 (textOf t) b₁ r → r ≤ 1042
-unfolding textOf header
-text-within t h l =
-    let f = setIn (t .full) (t .m) in
-    let o = setIn (t .opens) (t .m) in
-    let n = length-append (header ++ rowsAt t (t .m)) (totals f o) in
-    let k = length-append header (rowsAt t (t .m)) in
-    let p = length-rows t (t .m) in
-    let q = length-totals f o in
-    let e = l .behind in
-    let g = h .gates in
-    omega arith
 
 pub refusal-laid : {b b₁ b₂ : List ℕ} {r₁ r₂ : ℕ} (k : ℕ) → Laid b 0 (0x72 ∷ 0x65 ∷ 0x66 ∷ 0x75 ∷ 0x73 ∷ 0x65 ∷ 0x64 ∷ 0x20 ∷ []) b₁ r₁
     → Laid b₁ r₁ (number k 0x0A) b₂ r₂ → Laid b 0 (refusedLine k) b₂ r₂
 unfolding refusedLine number
 refusal-laid k p q = laid-append p q
-
-pub refusal-within : {b b₁ : List ℕ} {r : ℕ} (k : ℕ) → Laid b 0 (refusedLine k) b₁ r → r ≤ 1042
-unfolding refusedLine number
-refusal-within k l = let n = length-number k 0x0A in let e = l .behind in omega arith

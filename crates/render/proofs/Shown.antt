@@ -133,7 +133,7 @@ module _ (bytes : List ℕ) (l : Loaded) (e : l ≡ loadOf bytes) where
   listing-refused r a = rw (← e, a)
 
 -- the text that was laid at a buffer's start, as a part of it
-pub text-part : {b b₁ : List ℕ} {n : ℕ} (text : List ℕ) → Laid b 0 text b₁ n → n ≤ 1042 → 1042 ≤ length b → take (n - 0) (drop 0 b₁) ≡ text
+pub text-part : {b b₁ : List ℕ} {n : ℕ} (text : List ℕ) → Laid b 0 text b₁ n → length text ≤ 1042 → 1042 ≤ length b → take (n - 0) (drop 0 b₁) ≡ text
 text-part {b} {b₁} {n} text l few h =
     let k = l .behind in
     let w = laid-start b text b₁ n (omega arith) l in

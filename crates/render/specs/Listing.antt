@@ -1,7 +1,8 @@
 -- The listing of a file, byte by byte: 01, 'The twin network'. Assumes nothing.
+use mathlib.Core.Path.{_≡_}
 use mathlib.Core.Bool.{cond}
 use mathlib.Core.List.{List, [], _∷_, _++_}
-use Prim.Native.Nat.{ℕ, zero, suc, _+_, _/_, _%_}
+use Prim.Native.Nat.{ℕ, zero, suc, _+_, _/_, _%_, _≤_}
 use lib.Dec.{ltb}
 use lib.ListN.{length}
 use Rattle.bits.specs.Range.{count}
@@ -89,3 +90,13 @@ listingOf bytes = listingFor (loadOf bytes .answer) (loadOf bytes .session)
 -- the text from the start of a lent buffer, the rest stays; 9 where it is shorter than the text
 unfoldable pub listingInto : List ℕ → List ℕ → Filled
 listingInto bytes buffer = filled (roomTest (length (listingOf bytes)) buffer) (listingOf bytes) buffer
+
+-- ## Its length
+
+-- 26 bytes of header, 25 for each of 40 gates and 16 of totals are the most
+abbrev pub ListingLength : Type 0
+ListingLength = (bytes : List ℕ) → length (listingOf bytes) ≤ 1042
+
+-- a buffer of that length is never too short
+abbrev pub ListingRoom : Type 0
+ListingRoom = (bytes buffer : List ℕ) → 1042 ≤ length buffer → listingInto bytes buffer .answer ≡ Done

@@ -243,10 +243,10 @@ fn put_refusal(buf: &mut [u8], k: u64) -> usize
     put_number(buf, a, k, 0x0A)
 }
 
-// The listing of any bytes.
-fn put_listing(buf: &mut [u8], bytes: &[u8]) -> usize
+// The listing of any bytes, in a buffer that is long enough for each.
+pub fn put_listing(buf: &mut [u8], bytes: &[u8]) -> usize
     requires { ⌜ 1042 ≤ length (now buf) ⌝ }
-    ensures { λ r. ⌜ Laid (now (buf .entry)) 0 (listingOf (now (bytes .entry))) (now (buf .exit)) r × (r ≤ 1042) ⌝ }
+    ensures { λ r. ⌜ Laid (now (buf .entry)) 0 (listingOf (now (bytes .entry))) (now (buf .exit)) r ⌝ }
 {
     let l = engine::load(bytes);
     let a = l.answer;

@@ -8,6 +8,7 @@ use Rattle.network.specs.declared.WriteAnswer.the-variants.{Written}
 use Rattle.netwrite.proofs.Laws.{laid-start}
 use Rattle.render.specs.Listing.{listingOf}
 use Rattle.render.proofs.Shown.{text-part, into-short, into-done}
+use Rattle.render.proofs.Lengths.{listing-length, listing-ends}
 use Rattle.render.proofs.listing.Statement.{statement}
 use Rattle.render.proofs.listing.Tie as tie
 
@@ -21,7 +22,7 @@ returns : tie.Need-returns
 returns c =
     let p = c .before .before in
     let x = p .before .before .before .before .args in
-    let n = p .put-listing .ensures .0 .behind in
+    let n = p .put-listing .ensures .behind in
     let h : length (x .buf .now) < length (listingOf (x .bytes .now)) = omega arith in
     let e = into-short (x .bytes .now) (x .buf .now) h in
     (rw e, rw e)
@@ -33,7 +34,9 @@ part-copy-start : tie.Need-part-copy-start
 part-copy-start c = search needs
 
 part-copy-end : tie.Need-part-copy-end
-part-copy-end c = search needs
+part-copy-end c =
+    let p = c .before .before .before .before in
+    listing-ends (p .before .before .before .before .args .bytes .now) (p .put-listing .ensures) (search needs)
 
 copy-requires : tie.Need-copy-requires
 copy-requires c κs = search needs
@@ -47,10 +50,10 @@ returns-2 c =
     let p = k .before .before .before .before .before .before in
     let x = p .before .before .before .before .args in
     let text = listingOf (x .bytes .now) in
-    let l = p .put-listing .ensures .0 in
+    let l = p .put-listing .ensures in
     let n = l .behind in
     let h : length text ≤ length (x .buf .now) = omega arith in
-    let q = text-part text l (p .put-listing .ensures .1) (search needs) in
+    let q = text-part text l (listing-length (x .bytes .now)) (search needs) in
     let w = laid-start (x .buf .now) text (k .copy .last .0) (k .copy .result) h (rw q at (k .copy .ensures)) in
     let e = into-done (x .bytes .now) (x .buf .now) h in
     (ap Written (w .0) ∙ rw e, w .1 ∙ rw e)

@@ -2,7 +2,6 @@
 use mathlib.Core.Path.{sym, ap, _∙_}
 use borrow.Author.Needs.{needs}
 use Rattle.render.specs.Listing.{refusedLine}
-use Rattle.render.proofs.Laws.{text-within, refusal-within}
 use Rattle.render.proofs.Shown.{loads, listing-loaded, listing-refused}
 use Rattle.render.proofs.put_listing.Statement.{statement}
 use Rattle.render.proofs.put_listing.Tie as tie
@@ -29,7 +28,7 @@ returns c =
     let a = k .before .before .before in
     let t = a .before .before in
     let e = listing-refused (t .before .before .before .args .bytes .now) (t .load .result) (t .load .ensures) _ (a .a .given .1) in
-    (rw (e ∙ ap refusedLine (sym (k .number-of .ensures .0))) (p .put-refusal .ensures), refusal-within _ (p .put-refusal .ensures))
+    rw (e ∙ ap refusedLine (sym (k .number-of .ensures .0))) (p .put-refusal .ensures)
 
 enum-told : tie.Need-enum-told
 enum-told c = search needs
@@ -52,7 +51,7 @@ returns-2 c =
     let s = k .before .before in
     let t = s .before .before in
     let e = listing-loaded (t .before .before .before .args .bytes .now) (t .load .result) (t .load .ensures) (s .enum-told .given .1) in
-    (rw (e ∙ sym (k .columns-of .ensures .1)) (p .put-text .ensures), text-within _ (k .columns-of .ensures .0) (p .put-text .ensures))
+    rw (e ∙ sym (k .columns-of .ensures .1)) (p .put-text .ensures)
 
 pub put-listing-spec : {M : Type 1} → statement M
 put-listing-spec =
