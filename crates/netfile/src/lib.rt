@@ -6,7 +6,7 @@ ghost use lib.ListN.{length, getD, take, drop};
 ghost use lib.Seq.{sets};
 ghost use Rattle.network.specs.Tests.{first};
 ghost use Rattle.network.specs.Tests as tests;
-ghost use Rattle.network.specs.Load.{littleEndian, isExcluded, headerRecord, gateTests, gateRecord, outputRecord, wordsFrom, faninsIn, tableIn, withGate, withOutput, readOutputs, readGates, readBody, readOf, loadRefused};
+ghost use Rattle.network.specs.Load.{littleEndian, isExcluded, headerRecord, gateTests, gateRecord, outputRecord, wordsFrom, readOutputs, readGates, readBody, readOf, loadRefused};
 ghost use Rattle.network.specs.Load as file;
 ghost use Rattle.netfile.specs.Kind.{kindAt, notDue};
 use network::Answer;
@@ -193,24 +193,6 @@ fn put_fanins(fanins: [u8; 240], at: usize, fs: &[u8]) -> [u8; 240]
     a
 }
 
-// The gate record that opens what is left, as gate g.
-fn put_gate(t: Session, g: usize, rest: &[u8]) -> Session
-    requires { ⌜ (g < 40) × (getD (now rest) 2 0 ≤ 4) × (getD (now rest) 2 0 + 5 ≤ length (now rest)) ⌝ }
-    ensures { λ r. ⌜ r ≡ withGate t g (getD (now (rest .entry)) 2 0) (faninsIn (now (rest .entry))) (tableIn (now (rest .entry))) ⌝ }
-{
-    let mut u = t;
-    let k = rest[2];
-    let e = 3 + (k as usize);
-    let a = u.fanins;
-    let b = put_fanins(a, 6 * g, &rest[3..e]);
-    let w = table(rest, e);
-    u.arity[g] = k;
-    u.fanins = b;
-    u.loaded[g] = w;
-    u.current[g] = w;
-    u
-}
-
 // The session that holds nothing but the counts.
 fn started(n: u8, m: u8, p: u8) -> Session
     ensures { λ r. ⌜ r ≡ file.started n m p ⌝ }
@@ -240,17 +222,6 @@ pub fn refused(r: Refusal) -> Loaded
     }
 }
 
-// The output record at `at`, as output i.
-fn put_output(t: Session, i: usize, rest: &[u8], at: usize) -> Session
-    requires { ⌜ (i < 8) × (at + 3 ≤ length (now rest)) ⌝ }
-    ensures { λ r. ⌜ r ≡ withOutput t i (getD (now (rest .entry)) (at + 2) 0) ⌝ }
-{
-    let mut u = t;
-    let x = at + 2;
-    u.outputs[i] = rest[x];
-    u
-}
-
 // The outputs, and nothing after them.
 fn outputs(t: Session, rest: &[u8]) -> Loaded
     requires { ⌜ (t .n ≤ 10) × (t .m ≤ 40) × (t .p ≤ 8) ⌝ }
@@ -266,7 +237,8 @@ fn outputs(t: Session, rest: &[u8]) -> Loaded
         if let Answer::Refused(r) = a {
             return refused(r);
         }
-        u = put_output(u, i, rest, at);
+        let x = at + 2;
+        u.outputs[i] = rest[x];
         at += 3;
         i += 1;
     }
@@ -299,11 +271,21 @@ fn gates(t: Session, rest: &[u8]) -> Loaded
     let mut at: usize = 0;
     let mut g: u8 = 0;
     while g < m {
-        let a = gate_record(&rest[at..], n + g);
+        let part = &rest[at..];
+        let a = gate_record(part, n + g);
         if let Answer::Refused(r) = a {
             return refused(r);
         }
-        u = put_gate(u, g as usize, &rest[at..]);
+        let i = g as usize;
+        let k = part[2];
+        let e = 3 + (k as usize);
+        let w = table(part, e);
+        let f = u.fanins;
+        let b = put_fanins(f, 6 * i, &part[3..e]);
+        u.arity[i] = k;
+        u.fanins = b;
+        u.loaded[i] = w;
+        u.current[i] = w;
         at = gate_end(rest, at);
         g += 1;
     }

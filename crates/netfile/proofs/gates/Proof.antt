@@ -1,12 +1,14 @@
-use mathlib.Core.Path.{_≡_, refl, ap, _∙_}
-use Prim.Native.Nat.{_-_, _≤_}
+-- `netfile::gates` meets its contract. Assumes nothing.
+use mathlib.Core.Path.{_≡_, refl, _∙_}
+use Prim.Native.Nat.{_-_, _≤_, _<_}
 use native.Mathlib.Nat.{sub-zero}
 use native.Mathlib.Omega.{arith}
-use lib.ListN.{length, drop}
+use lib.ListN.{length, getD, take, drop}
+use lib.Seq.{drop-drop}
 use borrow.Author.Needs.{needs}
-use Rattle.network.specs.declared.Session.{Session}
 use Rattle.network.specs.Load.{readGates}
 use Rattle.netfile.proofs.Steps.{tail-part}
+use Rattle.netfile.proofs.Records.{WholeGate, fanins-part}
 use Rattle.netfile.proofs.Loops.{gate-room, gate-whole, gate-next, gate-refused, gates-last}
 use Rattle.netfile.proofs.gates.Statement.{statement}
 use Rattle.netfile.proofs.gates.Tie as tie
@@ -18,17 +20,29 @@ Inv-loop rest n m u₀ at₀ g₀ u at g =
 abbrev μ-loop : tie.MeasureT-loop
 μ-loop rest n m u₀ at₀ g₀ u at g = m - g
 
+-- the record that is read is whole
+whole : (c : tie.After-enum-told Inv-loop μ-loop) →
+    let o = c .before .before in
+    let h = o .before .before .before .loop in
+    let a = o .before .before .before .before .before .args in
+    WholeGate (take (length (a .rest .now) - h .at) (drop (h .at) (a .rest .now)))
+whole c =
+    let o = c .before .before in
+    let h = o .before .before .before .loop in
+    let a = o .before .before .before .before .before .args in
+    gate-whole (a .rest .now) (a .t .m) (h .u) (h .at) (h .g) (a .t .n) (h .inv .2) (o .gate-record .result) (o .gate-record .ensures) (c .enum-told .given .1)
+
 loop-holds : tie.Need-loop-holds Inv-loop μ-loop
 loop-holds c = (omega arith, omega arith, refl, refl, refl, rw sub-zero)
 
-sub-gate-record : tie.Need-sub-gate-record Inv-loop μ-loop
-sub-gate-record c = search needs
+sub-part : tie.Need-sub-part Inv-loop μ-loop
+sub-part c = search needs
 
-part-gate-record-start : tie.Need-part-gate-record-start Inv-loop μ-loop
-part-gate-record-start c = search needs
+part-part-start : tie.Need-part-part-start Inv-loop μ-loop
+part-part-start c = search needs
 
-part-gate-record-end : tie.Need-part-gate-record-end Inv-loop μ-loop
-part-gate-record-end c = search needs
+part-part-end : tie.Need-part-part-end Inv-loop μ-loop
+part-part-end c = search needs
 
 add-gate-record : tie.Need-add-gate-record Inv-loop μ-loop
 add-gate-record c = search needs
@@ -52,32 +66,57 @@ returns c =
 enum-told : tie.Need-enum-told Inv-loop μ-loop
 enum-told c = search needs
 
-cast-put-gate : tie.Need-cast-put-gate Inv-loop μ-loop
-cast-put-gate c = search needs
+cast-i : tie.Need-cast-i Inv-loop μ-loop
+cast-i c = search needs
 
-sub-put-gate : tie.Need-sub-put-gate Inv-loop μ-loop
-sub-put-gate c = search needs
+shared-slice-read-k : tie.Need-shared-slice-read-k Inv-loop μ-loop
+shared-slice-read-k c = let w = whole (c .before) in omega (arith, w .few, w .long)
 
-part-put-gate-start : tie.Need-part-put-gate-start Inv-loop μ-loop
-part-put-gate-start c = search needs
+cast-e : tie.Need-cast-e Inv-loop μ-loop
+cast-e c = let w = whole (c .before) in omega (arith, w .few, w .long)
 
-part-put-gate-end : tie.Need-part-put-gate-end Inv-loop μ-loop
-part-put-gate-end c = search needs
+add-e : tie.Need-add-e Inv-loop μ-loop
+add-e c = let w = whole (c .before) in omega (arith, w .few, w .long)
 
-put-gate-requires : tie.Need-put-gate-requires Inv-loop μ-loop
-put-gate-requires c κs =
-    let o = c .before .before .before in
-    let h = o .before .before .before .loop in
-    let a = o .before .before .before .before .before .args in
-    let w = gate-whole (a .rest .now) (a .t .m) (h .u) (h .at) (h .g) (a .t .n) (h .inv .2) (o .gate-record .result) (o .gate-record .ensures) (c .before .enum-told .given .1) in
-    (omega arith, w .few, w .long)
+table-requires : tie.Need-table-requires Inv-loop μ-loop
+table-requires c κs = let w = whole (c .before) in omega (arith, w .few, w .long)
+
+mul-put-fanins : tie.Need-mul-put-fanins Inv-loop μ-loop
+mul-put-fanins c = search needs
+
+sub-put-fanins : tie.Need-sub-put-fanins Inv-loop μ-loop
+sub-put-fanins c = search needs
+
+part-put-fanins-start : tie.Need-part-put-fanins-start Inv-loop μ-loop
+part-put-fanins-start c = let w = whole (c .before .before .before) in omega (arith, w .few, w .long)
+
+part-put-fanins-end : tie.Need-part-put-fanins-end Inv-loop μ-loop
+part-put-fanins-end c = let w = whole (c .before .before .before) in omega (arith, w .few, w .long)
+
+put-fanins-requires : tie.Need-put-fanins-requires Inv-loop μ-loop
+put-fanins-requires c κs = let w = whole (c .before .before .before .before) in omega (arith, w .few, w .long)
+
+element-write-u : tie.Need-element-write-u Inv-loop μ-loop
+element-write-u c = search needs
+
+mul-u : tie.Need-mul-u Inv-loop μ-loop
+mul-u c = search needs
+
+element-write-u-2 : tie.Need-element-write-u-2 Inv-loop μ-loop
+element-write-u-2 c = search needs
+
+mul-u-2 : tie.Need-mul-u-2 Inv-loop μ-loop
+mul-u-2 c = search needs
+
+element-write-u-3 : tie.Need-element-write-u-3 Inv-loop μ-loop
+element-write-u-3 c = search needs
 
 gate-end-requires : tie.Need-gate-end-requires Inv-loop μ-loop
 gate-end-requires c κs =
-    let o = c .before .before .before .before in
+    let o = c .before .before .before .before .before .before .before in
     let h = o .before .before .before .loop in
     let a = o .before .before .before .before .before .args in
-    gate-room (a .rest .now) (a .t .m) (h .u) (h .at) (h .g) (a .t .n) (h .inv .2) (o .gate-record .result) (o .gate-record .ensures) (h .inv .1) (c .before .before .enum-told .given .1)
+    gate-room (a .rest .now) (a .t .m) (h .u) (h .at) (h .g) (a .t .n) (h .inv .2) (o .gate-record .result) (o .gate-record .ensures) (h .inv .1) (c .before .before .before .before .before .enum-told .given .1)
 
 add-g : tie.Need-add-g Inv-loop μ-loop
 add-g c = search needs
@@ -87,18 +126,20 @@ loop-less c = search needs
 
 loop-again : tie.Need-loop-again Inv-loop μ-loop
 loop-again c =
-    let o = c .before .before .before .before .before in
+    let o = c .before .before .before .before .before .before .before .before in
     let h = o .before .before .before .loop in
     let a = o .before .before .before .before .before .args in
-    let l = gate-room (a .rest .now) (a .t .m) (h .u) (h .at) (h .g) (a .t .n) (h .inv .2) (o .gate-record .result) (o .gate-record .ensures) (h .inv .1) (c .before .before .before .enum-told .given .1) in
+    let done = c .before .before .before .before .before .before .enum-told .given .1 in
+    let l = gate-room (a .rest .now) (a .t .m) (h .u) (h .at) (h .g) (a .t .n) (h .inv .2) (o .gate-record .result) (o .gate-record .ensures) (h .inv .1) done in
     let q = c .gate-end .ensures in
-    let e = rw tail-part at (c .before .put-gate .ensures) in (
+    let part = drop (h .at) (a .rest .now) in
+    let k = getD part 2 0 in (
       omega arith,
       omega arith,
-      ap (λ (s : Session). s .n) e ∙ h .inv .2,
-      ap (λ (s : Session). s .m) e ∙ h .inv .3,
-      ap (λ (s : Session). s .p) e ∙ h .inv .4,
-      rw (e, q) (gate-next (a .rest .now) (a .t .m) (h .u) (h .at) (h .g) (a .t .n) (h .inv .2) (o .gate-record .result) (o .gate-record .ensures) (omega arith) (c .before .before .before .enum-told .given .1)) ∙ h .inv .5,
+      h .inv .2,
+      h .inv .3,
+      h .inv .4,
+      rw (c .before .put-fanins .ensures, c .before .before .before .before .table .ensures, tail-part (a .rest .now) (h .at), fanins-part part k, ← drop-drop k 3 part, q) (gate-next (a .rest .now) (a .t .m) (h .u) (h .at) (h .g) (a .t .n) (h .inv .2) (o .gate-record .result) (o .gate-record .ensures) (omega arith) done) ∙ h .inv .5,
     )
 
 sub-outputs : tie.Need-sub-outputs Inv-loop μ-loop
@@ -131,20 +172,30 @@ gates-spec =
     Inv-loop
     μ-loop
     loop-holds
-    sub-gate-record
-    part-gate-record-start
-    part-gate-record-end
+    sub-part
+    part-part-start
+    part-part-end
     add-gate-record
     gate-record-requires
     enum-known-a
     refused-requires
     returns
     enum-told
-    cast-put-gate
-    sub-put-gate
-    part-put-gate-start
-    part-put-gate-end
-    put-gate-requires
+    cast-i
+    shared-slice-read-k
+    cast-e
+    add-e
+    table-requires
+    mul-put-fanins
+    sub-put-fanins
+    part-put-fanins-start
+    part-put-fanins-end
+    put-fanins-requires
+    element-write-u
+    mul-u
+    element-write-u-2
+    mul-u-2
+    element-write-u-3
     gate-end-requires
     add-g
     loop-less

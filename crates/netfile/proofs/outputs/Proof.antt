@@ -1,3 +1,4 @@
+-- `netfile::outputs` meets its contract. Assumes nothing.
 use mathlib.Core.Path.{_≡_, refl, _∙_}
 use Prim.Native.Nat.{_+_, _-_, _≤_}
 use native.Mathlib.Nat.{sub-zero}
@@ -15,6 +16,16 @@ Inv-loop rest signals p u₀ at₀ i₀ u at i =
 
 abbrev μ-loop : tie.MeasureT-loop
 μ-loop rest signals p u₀ at₀ i₀ u at i = p - i
+
+-- the record that is read is whole
+room : (c : tie.After-enum-told Inv-loop μ-loop) →
+    let o = c .before .before in
+    o .before .before .before .loop .at + 3 ≤ length (o .before .before .before .before .before .before .before .args .rest .now)
+room c =
+    let o = c .before .before in
+    let h = o .before .before .before .loop in
+    let a = o .before .before .before .before .before .before .before .args in
+    output-room (a .rest .now) (a .t .p) (h .u) (h .at) (h .i) (a .t .n + a .t .m) (h .inv .2) (o .output-record .result) (o .output-record .ensures) (h .inv .1) (c .enum-told .given .1)
 
 add-signals : tie.Need-add-signals Inv-loop μ-loop
 add-signals c = search needs
@@ -53,21 +64,17 @@ returns c =
 enum-told : tie.Need-enum-told Inv-loop μ-loop
 enum-told c = search needs
 
-put-output-requires : tie.Need-put-output-requires Inv-loop μ-loop
-put-output-requires c κs =
-    let o = c .before .before in
-    let h = o .before .before .before .loop in
-    let a = o .before .before .before .before .before .before .before .args in
-    let l = output-room (a .rest .now) (a .t .p) (h .u) (h .at) (h .i) (a .t .n + a .t .m) (h .inv .2) (o .output-record .result) (o .output-record .ensures) (h .inv .1) (c .enum-told .given .1) in
-    (omega arith, l)
+add-x : tie.Need-add-x Inv-loop μ-loop
+add-x c = let l = room c in omega arith
+
+shared-slice-read-u : tie.Need-shared-slice-read-u Inv-loop μ-loop
+shared-slice-read-u c = let l = room (c .before) in omega arith
+
+element-write-u : tie.Need-element-write-u Inv-loop μ-loop
+element-write-u c = search needs
 
 add-at : tie.Need-add-at Inv-loop μ-loop
-add-at c =
-    let o = c .before .before .before in
-    let h = o .before .before .before .loop in
-    let a = o .before .before .before .before .before .before .before .args in
-    let l = output-room (a .rest .now) (a .t .p) (h .u) (h .at) (h .i) (a .t .n + a .t .m) (h .inv .2) (o .output-record .result) (o .output-record .ensures) (h .inv .1) (c .before .enum-told .given .1) in
-    omega arith
+add-at c = let l = room (c .before) in omega arith
 
 add-i : tie.Need-add-i Inv-loop μ-loop
 add-i c = search needs
@@ -79,13 +86,11 @@ loop-again : tie.Need-loop-again Inv-loop μ-loop
 loop-again c =
     let o = c .before .before .before in
     let h = o .before .before .before .loop in
-    let a = o .before .before .before .before .before .before .before .args in
-    let l = output-room (a .rest .now) (a .t .p) (h .u) (h .at) (h .i) (a .t .n + a .t .m) (h .inv .2) (o .output-record .result) (o .output-record .ensures) (h .inv .1) (c .before .enum-told .given .1) in
-    let e = c .put-output .ensures in (
+    let a = o .before .before .before .before .before .before .before .args in (
       omega arith,
-      l,
-      rw e (h .inv .2),
-      rw e (output-next (a .rest .now) (a .t .p) (h .u) (h .at) (h .i) (a .t .n + a .t .m) (h .inv .2) (o .output-record .result) (o .output-record .ensures) (omega arith) (c .before .enum-told .given .1)) ∙ h .inv .3,
+      room (c .before),
+      h .inv .2,
+      output-next (a .rest .now) (a .t .p) (h .u) (h .at) (h .i) (a .t .n + a .t .m) (h .inv .2) (o .output-record .result) (o .output-record .ensures) (omega arith) (c .before .enum-told .given .1) ∙ h .inv .3,
     )
 
 refused-requires-2 : tie.Need-refused-requires-2 Inv-loop μ-loop
@@ -120,7 +125,9 @@ outputs-spec =
     refused-requires
     returns
     enum-told
-    put-output-requires
+    add-x
+    shared-slice-read-u
+    element-write-u
     add-at
     add-i
     loop-less
