@@ -25,7 +25,7 @@ use Rattle.edges.proofs.Laws.{edge-at}
 use Rattle.entries.proofs.By.{by-none, by-lt, by-more}
 use Rattle.simulate.specs.Simulated.{wordsAt}
 use Rattle.simulate.proofs.RowLaws.{words-at}
-use Rattle.compatible.specs.Words.{outputsLeave, edge, shuts, shutIn, shutsAt, shutBy}
+use Rattle.compatible.specs.Words.{outputsLeave, edge, shuts, shutIn, shutsAt, shutBy, unshut}
 
 -- one word ANDed: the signals that it is not of keep theirs
 and-at : (hs : List ℕ) (f v x b s : ℕ) (q : Bool) → f < length hs → v ≡ bitAnd (getD hs f 0) x → bit x b ≡ q
@@ -147,3 +147,7 @@ module _ (ks fs rows hs : List ℕ) (n live g : ℕ) where
   pub shut-lt : (W x : ℕ) → x ≡ shutBy ks fs rows hs n live W g → x < 2 ^ 2 ^ getD ks g 0
   unfolding shutBy
   shut-lt W x e = by-lt (2 ^ getD ks g 0) live (shutsAt ks fs rows hs n g) W x e
+
+  pub unshut-is : (W x : ℕ) → x ≡ shutBy ks fs rows hs n live W g → 2 ^ 2 ^ getD ks g 0 - 1 - x ≡ unshut ks fs rows hs n live W g
+  unfolding unshut
+  unshut-is W x e = ap (λ (i : ℕ). 2 ^ 2 ^ getD ks g 0 - 1 - i) e

@@ -1,4 +1,4 @@
 pub mod Laws
-pub mod Sets
 pub mod Stores
+pub mod Sets
 pub mod Loaded

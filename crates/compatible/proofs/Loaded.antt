@@ -15,8 +15,9 @@ use Rattle.network.specs.State.{stateFault}
 use Rattle.network.specs.Valid.{NetOk, OutputsOk}
 use Rattle.network.proofs.Laws.{length-gates}
 use Rattle.network.proofs.Valid.{net-ok, outputs-ok}
+use Rattle.compatible.specs.declared.OpenCounts.{OpenCounts}
 use Rattle.compatible.specs.Words.{perGate, onesIn}
-use Rattle.compatible.proofs.Stores.{ones-are, per-gate-ext}
+use Rattle.compatible.proofs.Stores.{counts-by}
 
 module _ (s : Session) (n m p : ℕ) (en : n ≡ s .n) (em : m ≡ s .m) (ep : p ≡ s .p) where
   pub net-fine : stateFault s ≡ Done → NetOk (s .arity) (s .fanins) n m × OutputsOk (s .outputs) p 50
@@ -49,5 +50,15 @@ module _ (s : Session) (n m p : ℕ) (en : n ≡ s .n) (em : m ≡ s .m) (ep : p
   counts-are W L l cut words =
       let fine : Cut (s .n) W L = subst (λ (k : ℕ). Cut k W L) en cut in
       ap (λ (k : ℕ). perGate k (λ g. onesIn l (16 * g) W)) em
-      ∙ per-gate-ext (s .m) (λ g. onesIn l (16 * g) W) (λ g. compatibleCount (loadedNet s) (s .n + g))
-      (λ g h. ones-are (s .n) W L (16 * g) l (compatible (loadedNet s) (s .n + g)) fine (λ w hw. words g w h (omega (arith, cut-words (s .n) W L fine))))
+      ∙ counts-by (s .n) (s .m) W L l (λ g. compatible (loadedNet s) (s .n + g)) fine (λ g w h hw. words g w h (omega (arith, cut-words (s .n) W L fine)))
+
+  pub both-are : (r : OpenCounts)
+      → (r .opens ≡ perGate m (λ g. openTable (netOf (s .arity) (s .fanins) (s .loaded) n m (s .excluded) (s .outputs) p) (n + g)))
+      × (r .counts ≡ perGate m (λ g. compatibleCount (netOf (s .arity) (s .fanins) (s .loaded) n m (s .excluded) (s .outputs) p) (n + g)))
+      → r ≡ record { opens = openTables (loadedNet s); counts = perGate (s .m) (λ g. compatibleCount (loadedNet s) (s .n + g)) }
+  both-are r e =
+      ap₂ {C = OpenCounts} (λ (x y : List ℕ). record { opens = x; counts = y })
+      (e .0 ∙ opens-are)
+      (e .1
+      ∙ ap₂ (λ (i : ℕ) (N : Net). perGate m (λ g. compatibleCount N (i + g))) en loaded-is
+      ∙ ap (λ (k : ℕ). perGate k (λ g. compatibleCount (loadedNet s) (s .n + g))) em)

@@ -2,10 +2,11 @@
 use mathlib.Core.Path.{_≡_, refl, sym, ap, ap₂, _∙_}
 use mathlib.Core.Bool.{Bool, false, not, _&&_}
 use mathlib.Core.List.{List, [], _∷_, map}
-use Prim.Native.Nat.{ℕ, suc, _+_, _-_, _*_, _/_, _%_, _^_, _<_}
+use Prim.Native.Nat.{ℕ, suc, _+_, _*_, _/_, _%_, _^_, _<_}
 use native.Mathlib.Omega.{arith}
 use native.Mathlib.Decide.{ℕ-discrete, decLt}
 use lib.Dec.{eqb, leb, ltb}
+use lib.Bits.{bitAnd}
 use lib.ListN.{length, getD, set}
 use lib.Seq.{getD-set-same, getD-set-other, getD-take}
 use borrow.Author.Tests.{le-leb, lt-leb}
@@ -15,14 +16,15 @@ use Rattle.bits.specs.Cut.{Cut}
 use Rattle.bits.proofs.BitLaws.{bit-zero}
 use Rattle.bits.proofs.Ranges.{every-ext, any-ext, table-ext, places-at, map-places, column-at, length-places}
 use Rattle.network.specs.Net.{Gate, Net, arity, gate, noGate, entry, values, excluded, excludedFor}
-use Rattle.network.specs.Compatible.{agree, edgeSet, atOutputs, compatibleFrom, compatible, delivers, closed, openTable}
-use Rattle.network.specs.Flat.{gateAt, gatesOf, netOf}
+use Rattle.network.specs.Compatible.{agree, edgeSet, atOutputs, compatibleFrom, compatible, compatibleCount, delivers, closed, openTable}
+use Rattle.network.specs.Flat.{gateAt, gatesOf, netOf, wordOf}
 use Rattle.network.specs.Valid.{NetOk}
 use Rattle.network.proofs.Laws.{arity-at, entry-at, entry-ext, length-gates}
 use Rattle.network.proofs.Earlier.{gates-at, gate-is}
 use Rattle.simulate.specs.Simulated.{Simulated, wordsAt}
 use Rattle.entries.proofs.By.{by-rest}
-use Rattle.compatible.specs.Words.{outputsLeave, CompatibleRows, shuts, shutsAt, shutBy}
+use Rattle.compatible.specs.Words.{outputsLeave, CompatibleRows, shuts, shutsAt, shutBy, unshut, perGate, onesIn}
+use Rattle.compatible.proofs.Stores.{word-is, per-gate-ext, counts-by}
 
 -- rule 5 looks at the values through the entries of the gates alone
 from-ext : (d : Gate) (f h : ℕ → Bool) (us vs : List Bool) (gs : List Gate) (j s : ℕ) → ((i : ℕ) → f i ≡ h i)
@@ -124,20 +126,36 @@ module _ (ks fs ts ex outs : List ℕ) (n m p : ℕ) where
         unfolding movedAt
         shuts-is t = ap₂ (λ (u v : Bool). not u && v) (set-at (n + g) (omega arith)) (delivers-is t)
 
-    -- ## Rule 7 over the words
+    -- ## All words
 
-    pub opened : (rows hs : List ℕ) (L W live g x : ℕ) → g < m → Cut n W L → ((b : ℕ) → bit live b ≡ ltb b L) → CompatibleRows ks fs ts ex outs rows hs n m p W
-        → x ≡ shutBy ks fs rows hs n live W g → 2 ^ 2 ^ getD ks g 0 - 1 - x ≡ openTable N (n + g)
-    unfolding shutBy openTable closed
-    opened rows hs L W live g x hg cut live-at found e =
-        by-rest (2 ^ getD ks g 0) live (shutsAt ks fs rows hs n g) n W L x cut live-at e
-        ∙ table-ext (2 ^ getD ks g 0) (λ t. not (any (2 ^ n) (shutsAt ks fs rows hs n g t))) (λ t. not (any (2 ^ n) (comes g t)))
-        (λ t ht. ap not (any-ext (2 ^ n) (shutsAt ks fs rows hs n g t) (comes g t)
-        (λ y hy.
-        let w = y / 64 in
-        let b = y % 64 in
-        let hw = cut .word y hy in
-        let q : w * 64 + b ≡ y = omega arith in
-        shuts-is (wordsAt rows w) w (found .values w hw) b (omega arith) (wordsAt hs w) (found .sets w hw b (omega arith)) g hg t
-        ∙ ap (comes g t) q)))
-        ∙ ap₂ (λ (k j : ℕ). tableOf (2 ^ k) (λ t. not (any (2 ^ j) (comes g t)))) (sym (ap arity (gate-is ks fs ts ex outs n m p g hg) ∙ arity-at ks fs ts g)) inputs-is
+    module _ (rows hs : List ℕ) (W L live : ℕ) (cut : Cut n W L) (live-at : (b : ℕ) → bit live b ≡ ltb b L) (found : CompatibleRows ks fs ts ex outs rows hs n m p W) where
+      open-is : (g : ℕ) → g < m → unshut ks fs rows hs n live W g ≡ openTable N (n + g)
+      unfolding unshut shutBy openTable closed
+      open-is g hg =
+          by-rest (2 ^ getD ks g 0) live (shutsAt ks fs rows hs n g) n W L (shutBy ks fs rows hs n live W g) cut live-at refl
+          ∙ table-ext (2 ^ getD ks g 0) (λ t. not (any (2 ^ n) (shutsAt ks fs rows hs n g t))) (λ t. not (any (2 ^ n) (comes g t)))
+          (λ t ht. ap not (any-ext (2 ^ n) (shutsAt ks fs rows hs n g t) (comes g t)
+          (λ y hy.
+          let w = y / 64 in
+          let b = y % 64 in
+          let hw = cut .word y hy in
+          let q : w * 64 + b ≡ y = omega arith in
+          shuts-is (wordsAt rows w) w (found .values w hw) b (omega arith) (wordsAt hs w) (found .sets w hw b (omega arith)) g hg t
+          ∙ ap (comes g t) q)))
+          ∙ ap₂ (λ (k j : ℕ). tableOf (2 ^ k) (λ t. not (any (2 ^ j) (comes g t)))) (sym (ap arity (gate-is ks fs ts ex outs n m p g hg) ∙ arity-at ks fs ts g)) inputs-is
+
+      -- rule 7
+      pub opened : perGate m (unshut ks fs rows hs n live W) ≡ perGate m (λ g. openTable N (n + g))
+      opened = per-gate-ext m (unshut ks fs rows hs n live W) (λ g. openTable N (n + g)) open-is
+
+      module _ (small : live < 2 ^ 64) (l : List ℕ) (words : (g w : ℕ) → g < m → w < W → getD l (16 * g + w) 0 ≡ bitAnd live (getD (wordsAt hs w) (n + g) 0)) where
+        -- H of each gate
+        pub set-words : (g w : ℕ) → g < m → w < W → getD l (16 * g + w) 0 ≡ wordOf n (compatible N (n + g)) w
+        set-words g w hg hw =
+            words g w hg hw
+            ∙ word-is n W L live w (getD (wordsAt hs w) (n + g) 0) (compatible N (n + g)) cut small live-at hw (λ b hb. found .sets w hw b hb (n + g) (omega arith))
+
+        -- and its patterns
+        pub counted : perGate m (λ g. onesIn l (16 * g) W) ≡ perGate m (λ g. compatibleCount N (n + g))
+        unfolding compatibleCount netOf
+        counted = counts-by n m W L l (λ g. compatible N (n + g)) cut set-words

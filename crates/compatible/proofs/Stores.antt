@@ -38,17 +38,14 @@ word-is n W L live w h q cut small live-at hw set-at =
     bit-ext 64 (bitAnd live h) (tableOf 64 p) (lt-of-le-of-lt (and-le-l live h) small) (table-lt 64 p)
     (λ b hb. bit-and live h b ∙ ap₂ (λ (x y : Bool). x && y) (live-at b ∙ live-place n W L w b cut hw hb) (set-at b hb) ∙ sym (bit-table 64 p b hb))
 
--- one more word of each gate's set
-pub sets-step : (n W L live w m : ℕ) (l l′ hs : List ℕ) (q : ℕ → ℕ → Bool) → Cut n W L → live < 2 ^ 64 → ((b : ℕ) → bit live b ≡ ltb b L) → w < W
-    → ((b : ℕ) → b < 64 → (s : ℕ) → s < n + m → bit (getD hs s 0) b ≡ q s (w * 64 + b))
-    → ((g v : ℕ) → g < m → v < w → getD l (16 * g + v) 0 ≡ wordOf n (q (n + g)) v)
-    → ((g : ℕ) → g < m → getD l′ (16 * g + w) 0 ≡ bitAnd live (getD hs (n + g) 0))
+-- one more word of each gate
+pub sets-step : (q : ℕ → ℕ → ℕ) (w m : ℕ) (l l′ : List ℕ)
+    → ((g v : ℕ) → g < m → v < w → getD l (16 * g + v) 0 ≡ q g v)
+    → ((g : ℕ) → g < m → getD l′ (16 * g + w) 0 ≡ q g w)
     → ((g v : ℕ) → v < w → getD l′ (16 * g + v) 0 ≡ getD l (16 * g + v) 0)
-    → (g v : ℕ) → g < m → v < w + 1 → getD l′ (16 * g + v) 0 ≡ wordOf n (q (n + g)) v
-sets-step n W L live w m l l′ hs q cut small live-at hw set-at done own kept g v hg hv =
-    lt-cases v w (omega arith) (λ h. kept g v h ∙ done g v hg h)
-    (λ e. subst (λ (i : ℕ). getD l′ (16 * g + i) 0 ≡ wordOf n (q (n + g)) i) (sym e)
-    (own g hg ∙ word-is n W L live w (getD hs (n + g) 0) (q (n + g)) cut small live-at hw (λ b hb. set-at b hb (n + g) (omega arith))))
+    → (g v : ℕ) → g < m → v < w + 1 → getD l′ (16 * g + v) 0 ≡ q g v
+sets-step q w m l l′ done own kept g v hg hv =
+    lt-cases v w (omega arith) (λ h. kept g v h ∙ done g v hg h) (λ e. subst (λ (i : ℕ). getD l′ (16 * g + i) 0 ≡ q g i) (sym e) (own g hg))
 
 -- ## The ones of a set
 
@@ -104,3 +101,9 @@ per-gate-ext m p q f = places-ext 40 (λ g. cond (ltb g m) (p g) 0) (λ g. cond 
     go : (g : ℕ) → Dec (g < m) → cond (ltb g m) (p g) 0 ≡ cond (ltb g m) (q g) 0
     go g (yes h) = rw (lt-ltb g m h) (f g h)
     go g (no h) = rw (le-ltb g m (omega arith))
+
+-- the ones of each gate's words, where they are the words of its set
+pub counts-by : (n m W L : ℕ) (l : List ℕ) (q : ℕ → ℕ → Bool) → Cut n W L → ((g w : ℕ) → g < m → w < W → getD l (16 * g + w) 0 ≡ wordOf n (q g) w)
+    → perGate m (λ g. onesIn l (16 * g) W) ≡ perGate m (λ g. count (2 ^ n) (q g))
+counts-by n m W L l q cut words =
+    per-gate-ext m (λ g. onesIn l (16 * g) W) (λ g. count (2 ^ n) (q g)) (λ g h. ones-are n W L (16 * g) l (q g) cut (λ w hw. words g w h hw))

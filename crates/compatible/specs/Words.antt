@@ -2,7 +2,7 @@
 use mathlib.Core.Path.{_≡_}
 use mathlib.Core.Bool.{Bool, not, cond, _&&_, _||_}
 use mathlib.Core.List.{List}
-use Prim.Native.Nat.{ℕ, zero, suc, _+_, _*_, _/_, _%_, _^_, _<_}
+use Prim.Native.Nat.{ℕ, zero, suc, _+_, _-_, _*_, _/_, _%_, _^_, _<_}
 use lib.Dec.{eqb, ltb}
 use lib.ListN.{getD}
 use Rattle.bits.specs.Range.{_⇒_, every, any, count, places}
@@ -44,6 +44,10 @@ shutsAt ks fs rows hs n g t x = shuts ks fs (wordsAt rows (x / 64)) (wordsAt hs 
 -- the entries of gate g that some live place of the first w words shuts
 unfoldable pub shutBy : (ks fs rows hs : List ℕ) (n live w g : ℕ) → ℕ
 shutBy ks fs rows hs n live w g = tableBy (2 ^ getD ks g 0) live w (shutsAt ks fs rows hs n g)
+
+-- the entries of gate g that none does
+unfoldable pub unshut : (ks fs rows hs : List ℕ) (n live w g : ℕ) → ℕ
+unshut ks fs rows hs n live w g = 2 ^ 2 ^ getD ks g 0 - 1 - shutBy ks fs rows hs n live w g
 
 -- in 40 places, one for each of m gates: what p says, and 0 past the last
 abbrev pub perGate : (m : ℕ) (p : ℕ → ℕ) → List ℕ

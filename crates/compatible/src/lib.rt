@@ -14,7 +14,7 @@ ghost use Rattle.network.specs.Flat.{gateAt, gatesOf, netOf, loadedNet, wordOf}
 ghost use Rattle.network.specs.Valid.{GateOk, NetOk, OutputsOk};
 ghost use Rattle.network.specs.State.{stateFault};
 ghost use Rattle.simulate.specs.Simulated.{wordsAt};
-ghost use Rattle.compatible.specs.Words.{outputsLeave, edge, CompatibleRows, shutIn, shutBy, perGate, onesIn};
+ghost use Rattle.compatible.specs.Words.{outputsLeave, edge, CompatibleRows, shutIn, shutBy, unshut, perGate, onesIn};
 use network::Answer;
 use network::Session;
 
@@ -206,6 +206,32 @@ fn shut(
     acc
 }
 
+// The open tables of all gates, by the rows of the values and of H.
+fn open_from(
+    n: usize,
+    m: usize,
+    arity: &[u8; 40],
+    fanins: &[u8; 240],
+    rows: &[u64; 800],
+    hs: &[u64; 800],
+    live: u64,
+    count: usize,
+) -> [u64; 40]
+    requires { ⌜ NetOk (now arity) (now fanins) n m ⌝ }
+    requires { ⌜ count ≤ 16 ⌝ }
+    ensures { λ r. ⌜ r ≡ perGate m (unshut (now (arity .entry)) (now (fanins .entry)) (now (rows .entry)) (now (hs .entry)) n live count) ⌝ }
+{
+    let mut opens = [0u64; 40];
+    let mut g = 0;
+    while g < m {
+        let c = entries::entry_count(network::place(arity[g]));
+        let v = bits::rest(c, shut(n, arity, fanins, rows, hs, live, count, g));
+        opens[g] = v;
+        g += 1;
+    }
+    opens
+}
+
 // The open tables of all gates.
 fn open_of(
     n: usize,
@@ -227,15 +253,7 @@ fn open_of(
     let r = compatible_rows(n, m, arity, fanins, tables, excluded, p, outs, count);
     let rows = r.values;
     let hs = r.sets;
-    let mut opens = [0u64; 40];
-    let mut g = 0;
-    while g < m {
-        let c = entries::entry_count(network::place(arity[g]));
-        let v = bits::rest(c, shut(n, arity, fanins, &rows, &hs, live, count, g));
-        opens[g] = v;
-        g += 1;
-    }
-    opens
+    open_from(n, m, arity, fanins, &rows, &hs, live, count)
 }
 
 // H of each gate in word w, put in its place, spare bits zero.
@@ -250,6 +268,20 @@ fn store_word(n: usize, m: usize, hs: &[u64; 800], live: u64, w: usize, sets: &m
         sets[16 * g + w] = v;
         g += 1;
     }
+}
+
+// H of each gate, sixteen words a gate, by the rows of H.
+fn sets_from(n: usize, m: usize, hs: &[u64; 800], live: u64, count: usize) -> [u64; 640]
+    requires { ⌜ (n ≤ 10) × (m ≤ 40) × (count ≤ 16) ⌝ }
+    ensures { λ l. ⌜ ((g w : ℕ) → g < m → w < count → getD l (16 * g + w) 0 ≡ bitAnd live (getD (wordsAt (now (hs .entry)) w) (n + g) 0)) ⌝ }
+{
+    let mut sets = [0u64; 640];
+    let mut w = 0;
+    while w < count {
+        store_word(n, m, hs, live, w, &mut sets);
+        w += 1;
+    }
+    sets
 }
 
 // H of each gate, sixteen words a gate.
@@ -272,13 +304,7 @@ fn sets_of(
     let count = z.words;
     let r = compatible_rows(n, m, arity, fanins, tables, excluded, p, outs, count);
     let hs = r.sets;
-    let mut sets = [0u64; 640];
-    let mut w = 0;
-    while w < count {
-        store_word(n, m, &hs, live, w, &mut sets);
-        w += 1;
-    }
-    sets
+    sets_from(n, m, &hs, live, count)
 }
 
 // The ones of as many words as most says, from place at on.
@@ -309,6 +335,42 @@ fn counts_of(m: usize, most: usize, sets: &[u64; 640]) -> [u64; 40]
         g += 1;
     }
     counts
+}
+
+// The open table of each gate, and how many patterns its compatible set has.
+pub struct OpenCounts {
+    pub opens: [u64; 40],
+    pub counts: [u64; 40],
+}
+
+// Both from the same rows.
+fn open_counts_of(
+    n: usize,
+    m: usize,
+    arity: &[u8; 40],
+    fanins: &[u8; 240],
+    tables: &[u64; 40],
+    excluded: &[u64; 16],
+    p: usize,
+    outs: &[u8; 8],
+) -> OpenCounts
+    requires { ⌜ NetOk (now arity) (now fanins) n m ⌝ }
+    requires { ⌜ OutputsOk (now outs) p 50 ⌝ }
+    ensures { λ r. ⌜ (r .opens ≡ perGate m (λ g. openTable (netOf (now (arity .entry)) (now (fanins .entry)) (now (tables .entry)) n m (now (excluded .entry)) (now (outs .entry)) p) (n + g))) × (r .counts ≡ perGate m (λ g. compatibleCount (netOf (now (arity .entry)) (now (fanins .entry)) (now (tables .entry)) n m (now (excluded .entry)) (now (outs .entry)) p) (n + g))) ⌝ }
+{
+    let z = bits::size(n);
+    let live = bits::mask(z.places);
+    let count = z.words;
+    let r = compatible_rows(n, m, arity, fanins, tables, excluded, p, outs, count);
+    let rows = r.values;
+    let hs = r.sets;
+    let opens = open_from(n, m, arity, fanins, &rows, &hs, live, count);
+    let sets = sets_from(n, m, &hs, live, count);
+    let counts = counts_of(m, count, &sets);
+    OpenCounts {
+        opens: opens,
+        counts: counts,
+    }
 }
 
 // The compatible sets of the loaded network: word w of gate g at place 16 * g + w.
@@ -353,4 +415,20 @@ pub fn counts(s: Session) -> [u64; 40]
     let most = z.words;
     let sets = compatible_sets(s);
     counts_of(m, most, &sets)
+}
+
+// The open tables of the loaded network and the counts, both from one computation of the compatible sets.
+pub fn open_and_counts(s: Session) -> OpenCounts
+    requires { ⌜ stateFault s ≡ Answer.Done ⌝ }
+    ensures { λ r. ⌜ r ≡ record { opens = openTables (loadedNet s); counts = perGate (s .m) (λ g. compatibleCount (loadedNet s) (s .n + g)) } ⌝ }
+{
+    let n = network::place(s.n);
+    let m = network::place(s.m);
+    let p = network::place(s.p);
+    let arity = s.arity;
+    let fanins = s.fanins;
+    let loaded = s.loaded;
+    let excluded = s.excluded;
+    let outs = s.outputs;
+    open_counts_of(n, m, &arity, &fanins, &loaded, &excluded, p, &outs)
 }

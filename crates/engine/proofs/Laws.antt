@@ -1,11 +1,13 @@
 -- What each call gives by the answer of its tests. Assumes nothing.
-use mathlib.Core.Path.{_≡_, refl, sym, _∙_}
+use mathlib.Core.Path.{_≡_, refl, sym, ap, ap₂, _∙_}
 use mathlib.Core.List.{List, [], _∷_}
 use Prim.Native.Nat.{ℕ, _+_, _-_, _≤_, _<_}
 use native.Mathlib.Omega.{arith}
 use lib.ListN.{length, getD, replicate}
 use borrow.Author.Tests.{le-ltb, lt-ltb}
 use Rattle.network.specs.declared.Session.{Session}
+use Rattle.network.specs.declared.Loaded.{Loaded}
+use Rattle.network.specs.declared.Counts.{Counts}
 use Rattle.network.specs.declared.Refusal.{Refusal}
 use Rattle.network.specs.declared.Refusal.the-variants.{BufferTooShort, InvalidState}
 use Rattle.network.specs.declared.TablesAnswer.the-variants as tables
@@ -16,10 +18,13 @@ use Rattle.network.specs.DontCares.{sdc, cdc, full}
 use Rattle.network.specs.Flat.{loadedNet, currentNet}
 use Rattle.network.specs.Tests.{first}
 use Rattle.network.specs.State.{stateFault, asInvalid, stateTest}
-use Rattle.network.specs.Load.{loadDone, loadRefused, opened, readOf, loadOf}
+use Rattle.network.specs.Load.{started, loadDone, loadRefused, opened, readOf, loadOf}
 use Rattle.network.specs.Calls.{gateTest, stored, exchangeAnswer, exchangeOf, Filled, roomTest, overwritten, filled, tablesOf, countsFor, countsOf}
 use Rattle.network.proofs.TestLaws.{refused-done}
+use Rattle.network.proofs.Valid.{state-i}
 use Rattle.network.proofs.Reached.{opened-fault, loaded-fresh}
+use Rattle.engine.specs.declared.Counted.{Counted}
+use Rattle.engine.specs.Counted.{countedOf}
 
 -- ## Exchange, and calls that fill a buffer
 
@@ -94,3 +99,32 @@ module _ (bytes : List ℕ) where
   read-valid e =
       let s = readOf bytes .session in
       sym (opened-fault s) ∙ loaded-fresh bytes (opened s) (sym (load-done e)) .valid
+
+-- ## Load with counts
+
+-- the empty session has no gates
+no-counts : (a : Answer) → replicate 40 0 ≡ countsFor a (started 0 0 0) .counts
+no-counts Done = refl
+no-counts (Refused r) = refl
+
+opened-counts : (s : Session) → countsFor Done s ≡ countsFor Done (opened s)
+unfolding loadedNet
+opened-counts s = refl
+
+module _ (bytes : List ℕ) where
+  counted-is : (l : Loaded) (cs : List ℕ) → l ≡ loadOf bytes → cs ≡ countsOf (l .session) .counts → record { loaded = l; counts = cs } ≡ countedOf bytes
+  unfolding countedOf
+  counted-is l cs e f =
+      ap₂ {C = Counted} (λ (x : Loaded) (y : List ℕ). record { loaded = x; counts = y }) e (f ∙ ap {B = List ℕ} (λ (x : Loaded). countsOf (x .session) .counts) e)
+
+  pub counted-refused : (l : Loaded) {r : Refusal} → readOf bytes .answer ≡ Refused r → l ≡ loadRefused r → record { loaded = l; counts = replicate 40 0 } ≡ countedOf bytes
+  unfolding countsOf
+  counted-refused l e f =
+      counted-is l (replicate 40 0) (f ∙ load-refused bytes e) (no-counts (stateTest (started 0 0 0)) ∙ ap {B = List ℕ} (λ (x : Loaded). countsOf (x .session) .counts) (sym f))
+
+  pub counted-done : readOf bytes .answer ≡ Done
+      → record { loaded = loadDone (opened (readOf bytes .session)); counts = countsFor Done (readOf bytes .session) .counts } ≡ countedOf bytes
+  counted-done e =
+      let s = readOf bytes .session in
+      let v : stateTest (opened s) ≡ Done = state-i (opened s) (opened-fault s ∙ read-valid bytes e) in
+      counted-is (loadDone (opened s)) (countsFor Done s .counts) (load-done bytes e) (ap {B = List ℕ} (λ (x : Counts). x .counts) (opened-counts s ∙ counts-done (opened s) v))

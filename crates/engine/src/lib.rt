@@ -5,8 +5,9 @@ ghost use Rattle.network.specs.declared.Answer.the-variants.{Done};
 ghost use Rattle.network.specs.Flat.{loadedNet};
 ghost use Rattle.network.specs.Tests.{first};
 ghost use Rattle.network.specs.State.{stateFault, stateTest};
-ghost use Rattle.network.specs.Load.{loadOf, loadDone, opened};
-ghost use Rattle.network.specs.Calls.{gateTest, exchangeAnswer, exchangeOf, verdictOf, tablesOf, patternSetsOf, countsOf};
+ghost use Rattle.network.specs.Load.{loadOf, loadDone, withOpenTables, opened};
+ghost use Rattle.network.specs.Calls.{gateTest, exchangeAnswer, exchangeOf, verdictOf, tablesOf, patternSetsOf, countsFor, countsOf};
+ghost use Rattle.engine.specs.Counted.{countedOf};
 ghost use Rattle.engine.specs.Written.{writtenOf};
 use network::Answer;
 use network::Counts;
@@ -125,18 +126,25 @@ pub fn counts(s: Session) -> Counts
     }
 }
 
-// The session of a network that was read, with the open tables of its gates.
+// The session of a network that was read, with these open tables.
+fn holding(s: Session, opens: [u64; 40]) -> Loaded
+    ensures { λ r. ⌜ r ≡ loadDone (withOpenTables s opens) ⌝ }
+{
+    let mut u = s;
+    u.open_tables = opens;
+    Loaded {
+        answer: Answer::Done,
+        session: u,
+    }
+}
+
+// The same with the open tables of its gates.
 fn with_open_tables(s: Session) -> Loaded
     requires { ⌜ stateFault s ≡ Done ⌝ }
     ensures { λ r. ⌜ r ≡ loadDone (opened s) ⌝ }
 {
     let o = compatible::open_tables(s);
-    let mut u = s;
-    u.open_tables = o;
-    Loaded {
-        answer: Answer::Done,
-        session: u,
-    }
+    holding(s, o)
 }
 
 // Any bytes: a session with the network of the file, or no state.
@@ -150,6 +158,43 @@ pub fn load(bytes: &[u8]) -> Loaded
     }
     let s = l.session;
     with_open_tables(s)
+}
+
+// A load, and the number of patterns in the compatible set of each gate that it gives.
+pub struct Counted {
+    pub loaded: Loaded,
+    pub counts: [u64; 40],
+}
+
+// As `with_open_tables`, with the counts: both from one computation of the compatible sets.
+fn with_counts(s: Session) -> Counted
+    requires { ⌜ stateFault s ≡ Done ⌝ }
+    ensures { λ r. ⌜ r ≡ record { loaded = loadDone (opened s); counts = countsFor Done s .counts } ⌝ }
+{
+    let b = compatible::open_and_counts(s);
+    let o = b.opens;
+    let h = b.counts;
+    Counted {
+        loaded: holding(s, o),
+        counts: h,
+    }
+}
+
+// As `load`, with what `counts` gives of the session; where there is no state, each count is 0.
+pub fn load_counted(bytes: &[u8]) -> Counted
+    ensures { λ r. ⌜ r ≡ countedOf (now (bytes .entry)) ⌝ }
+{
+    let l = netfile::read(bytes);
+    let a = l.answer;
+    if let Answer::Refused(r) = a {
+        let none = [0u64; 40];
+        return Counted {
+            loaded: netfile::refused(r),
+            counts: none,
+        };
+    }
+    let s = l.session;
+    with_counts(s)
 }
 
 // The file's bytes from the start of the buffer, with the length; the rest of the buffer stays.

@@ -24,11 +24,15 @@ use Rattle.network.specs.Compatible.{compatible, compatibleCount, openTable, op
 use Rattle.network.specs.Flat.{loadedNet, currentNet}
 use Rattle.network.specs.Refusals.{numberOf}
 use Rattle.network.specs.Load.{loadOf}
-use Rattle.network.specs.Calls.{overwritten}
+use Rattle.network.specs.State.{stateFault}
+use Rattle.network.specs.Calls.{overwritten, countsOf}
+use Rattle.network.proofs.Valid.{state-i}
 use Rattle.network.proofs.Reached.{loaded-fresh}
 use Rattle.network.proofs.Exchanges.{loaded-length, loaded-inputs}
 use Rattle.compatible.specs.Words.{perGate}
 use Rattle.dontcares.specs.Framed.{Tabled}
+use Rattle.engine.specs.declared.Counted.{Counted}
+use Rattle.engine.specs.Counted.{countedOf}
 use Rattle.netwrite.specs.Laid.{Laid}
 use Rattle.netwrite.proofs.Laws.{laid-start}
 use Rattle.render.specs.declared.Columns.{Columns}
@@ -79,9 +83,13 @@ open-tables : (N : Net) → openTables N ≡ perGate (length (N .gates)) (λ g. 
 unfolding openTables
 open-tables N = refl
 
+counts-of : (s : Session) → stateFault s ≡ Done → countsOf s .counts ≡ perGate (s .m) (λ g. compatibleCount (loadedNet s) (s .n + g))
+unfolding countsOf
+counts-of s e = rw (state-i s e)
+
 module _ (s : Session) (t : Columns) (v : Loads s) (few : s .m ≤ 40) (en : t .n ≡ s .n) (em : t .m ≡ s .m)
     (k : Tabled (currentNet s) (t .cdc) (t .full) (s .n) (s .m))
-    (eo : t .opens ≡ s .open_tables) (eh : t .hidden ≡ perGate (s .m) (λ g. compatibleCount (loadedNet s) (s .n + g))) where
+    (eo : t .opens ≡ s .open_tables) (eh : t .hidden ≡ countsOf s .counts) where
   pub shown : Shows (loadedNet s) t
   shown =
       let N = loadedNet s in
@@ -95,7 +103,7 @@ module _ (s : Session) (t : Columns) (v : Loads s) (few : s .m ≤ 40) (en : t .
         full-at = λ g h. k .full-at g (omega arith) ∙ rw (c, i);
         open-at = λ g h. ap (λ (l : List ℕ). getD l g 0) (eo ∙ v .held ∙ open-tables N)
             ∙ per-gate (length (N .gates)) (λ x. openTable N (N .inputs + x)) g (omega arith) (omega arith);
-        hidden-at = λ g h. ap (λ (l : List ℕ). getD l g 0) eh ∙ per-gate (s .m) (λ x. compatibleCount N (s .n + x)) g few (omega arith) ∙ rw i;
+        hidden-at = λ g h. ap (λ (l : List ℕ). getD l g 0) (eh ∙ counts-of s (v .valid)) ∙ per-gate (s .m) (λ x. compatibleCount N (s .n + x)) g few (omega arith) ∙ rw i;
       }
 
 hidden-few : (N : Net) (s : ℕ) → N .inputs ≤ 10 → compatibleCount N s ≤ 1024
@@ -131,6 +139,16 @@ module _ (bytes : List ℕ) (l : Loaded) (e : l ≡ loadOf bytes) where
   pub listing-refused : (r : Refusal) → l .answer ≡ Refused r → listingOf bytes ≡ refusedLine (numberOf r)
   unfolding listingOf
   listing-refused r a = rw (← e, a)
+
+module _ (bytes : List ℕ) (c : Counted) (e : c ≡ countedOf bytes) where
+  pub counted-load : c .loaded ≡ loadOf bytes
+  unfolding countedOf
+  counted-load = ap {B = Loaded} (λ (x : Counted). x .loaded) e
+
+  pub counted-counts : c .counts ≡ countsOf (c .loaded .session) .counts
+  unfolding countedOf
+  counted-counts =
+      ap {B = List ℕ} (λ (x : Counted). x .counts) e ∙ ap {B = List ℕ} (λ (x : Loaded). countsOf (x .session) .counts) (sym counted-load)
 
 -- the text that was laid at a buffer's start, as a part of it
 pub text-part : {b b₁ : List ℕ} {n : ℕ} (text : List ℕ) → Laid b 0 text b₁ n → length text ≤ 1042 → 1042 ≤ length b → take (n - 0) (drop 0 b₁) ≡ text

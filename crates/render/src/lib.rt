@@ -4,7 +4,7 @@ ghost use Prim.Native.Nat.{_+_, _*_, _<_, _≤_};
 ghost use lib.ListN.{length};
 ghost use Rattle.network.specs.Flat.{loadedNet};
 ghost use Rattle.network.specs.Refusals.{numberOf};
-ghost use Rattle.network.specs.Calls.{writeAnswer};
+ghost use Rattle.network.specs.Calls.{writeAnswer, countsOf};
 ghost use Rattle.netwrite.specs.Laid.{Laid};
 ghost use Rattle.render.specs.Listing.{digit, header, totals, refusedLine, listingOfNet, listingOf, listingInto};
 ghost use Rattle.render.specs.Text.{number, field, entriesIn, rowAt, rowsAt, setIn, textOf, Ready, Loads};
@@ -189,16 +189,15 @@ fn put_text(buf: &mut [u8], t: Columns) -> usize
     put_totals(buf, b, f, o)
 }
 
-// What a session shows once it is loaded.
-fn columns_of(s: Session) -> Columns
-    requires { ⌜ Loads s ⌝ }
+// What a session shows once it is loaded, with the counts of its gates.
+fn columns_of(s: Session, hidden: [u64; 40]) -> Columns
+    requires { ⌜ Loads s × (hidden ≡ countsOf s .counts) ⌝ }
     ensures { λ r. ⌜ Ready r × (textOf r ≡ listingOfNet (loadedNet s)) ⌝ }
 {
     let t = dontcares::all_tables(s);
     let cdc = t.cdc;
     let full = t.full;
     let opens = s.open_tables;
-    let hidden = compatible::counts(s);
     Columns {
         n: s.n as u64,
         m: network::place(s.m),
@@ -248,13 +247,15 @@ pub fn put_listing(buf: &mut [u8], bytes: &[u8]) -> usize
     requires { ⌜ 1042 ≤ length (now buf) ⌝ }
     ensures { λ r. ⌜ Laid (now (buf .entry)) 0 (listingOf (now (bytes .entry))) (now (buf .exit)) r ⌝ }
 {
-    let l = engine::load(bytes);
+    let c = engine::load_counted(bytes);
+    let l = c.loaded;
     let a = l.answer;
     if let Answer::Refused(r) = a {
         return put_refusal(buf, number_of(r));
     }
     let s = l.session;
-    let t = columns_of(s);
+    let hidden = c.counts;
+    let t = columns_of(s, hidden);
     put_text(buf, t)
 }
 

@@ -12,9 +12,6 @@ use Rattle.render.proofs.columns_of.Tie as tie
 all-tables-requires : tie.Need-all-tables-requires
 all-tables-requires c κs = search needs
 
-counts-requires : tie.Need-counts-requires
-counts-requires c κs = search needs
-
 cast-t7 : tie.Need-cast-t7
 cast-t7 c = search needs
 
@@ -23,23 +20,23 @@ place-requires c κs = search needs
 
 returns : tie.Need-returns
 returns c =
-    let k = c .before .before in
-    let u = k .before .before .before .before in
-    let s = u .before .args .s in
+    let u = c .before .before .before .before .before in
+    let a = u .before .args in
+    let s = a .s in
     let t : Columns = record {
       n = s .n;
       m = c .place .result;
       cdc = u .all-tables .result .cdc;
       full = u .all-tables .result .full;
       opens = s .open_tables;
-      hidden = k .counts .result;
+      hidden = a .hidden;
     } in
-    let v = net-ok s (u .before .pre .valid) in
+    let v = net-ok s (u .before .pre .0 .valid) in
     let few = v .most in
     let m = c .place .ensures in
-    let w = shown s t (u .before .pre) few refl m (u .all-tables .ensures) refl (k .counts .ensures) in
+    let w = shown s t (u .before .pre .0) few refl m (u .all-tables .ensures) refl (u .before .pre .1) in
     (shows-ready (loadedNet s) t w (v .ins) (omega arith), shows-text (loadedNet s) t w)
 
 pub columns-of-spec : {M : Type 1} → statement M
 columns-of-spec =
-    tie.close (tie.spec all-tables-requires counts-requires cast-t7 place-requires returns)
+    tie.close (tie.spec all-tables-requires cast-t7 place-requires returns)

@@ -2,12 +2,12 @@
 use mathlib.Core.Path.{sym, ap, _∙_}
 use borrow.Author.Needs.{needs}
 use Rattle.render.specs.Listing.{refusedLine}
-use Rattle.render.proofs.Shown.{loads, listing-loaded, listing-refused}
+use Rattle.render.proofs.Shown.{loads, listing-loaded, listing-refused, counted-load, counted-counts}
 use Rattle.render.proofs.put_listing.Statement.{statement}
 use Rattle.render.proofs.put_listing.Tie as tie
 
-load-requires : tie.Need-load-requires
-load-requires c κs = search needs
+load-counted-requires : tie.Need-load-counted-requires
+load-counted-requires c κs = search needs
 
 enum-known-a : tie.Need-enum-known-a
 enum-known-a c = search needs
@@ -26,8 +26,9 @@ returns c =
     let p = c .before .before in
     let k = p .before in
     let a = k .before .before .before in
-    let t = a .before .before in
-    let e = listing-refused (t .before .before .before .args .bytes .now) (t .load .result) (t .load .ensures) _ (a .a .given .1) in
+    let t = a .before .before .before in
+    let bytes = t .before .before .before .args .bytes .now in
+    let e = listing-refused bytes (t .load-counted .result .loaded) (counted-load bytes (t .load-counted .result) (t .load-counted .ensures)) _ (a .a .given .1) in
     rw (e ∙ ap refusedLine (sym (k .number-of .ensures .0))) (p .put-refusal .ensures)
 
 enum-told : tie.Need-enum-told
@@ -35,8 +36,11 @@ enum-told c = search needs
 
 columns-of-requires : tie.Need-columns-of-requires
 columns-of-requires c κs =
-    let t = c .before .before .before in
-    loads (t .before .before .before .args .bytes .now) (t .load .result) (t .load .ensures) (c .before .enum-told .given .1)
+    let s = c .before .before in
+    let t = s .before .before .before in
+    let bytes = t .before .before .before .args .bytes .now in
+    let k = t .load-counted .result in
+    (loads bytes (k .loaded) (counted-load bytes k (t .load-counted .ensures)) (s .enum-told .given .1), counted-counts bytes k (t .load-counted .ensures))
 
 put-text-requires : tie.Need-put-text-requires
 put-text-requires c κs = search needs
@@ -48,16 +52,17 @@ returns-2 : tie.Need-returns-2
 returns-2 c =
     let p = c .before .before in
     let k = p .before .before in
-    let s = k .before .before in
-    let t = s .before .before in
-    let e = listing-loaded (t .before .before .before .args .bytes .now) (t .load .result) (t .load .ensures) (s .enum-told .given .1) in
+    let s = k .before .before .before in
+    let t = s .before .before .before in
+    let bytes = t .before .before .before .args .bytes .now in
+    let e = listing-loaded bytes (t .load-counted .result .loaded) (counted-load bytes (t .load-counted .result) (t .load-counted .ensures)) (s .enum-told .given .1) in
     rw (e ∙ sym (k .columns-of .ensures .1)) (p .put-text .ensures)
 
 pub put-listing-spec : {M : Type 1} → statement M
 put-listing-spec =
     tie.close
     (tie.spec
-    load-requires
+    load-counted-requires
     enum-known-a
     number-of-requires
     put-refusal-requires
