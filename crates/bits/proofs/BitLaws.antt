@@ -1,7 +1,7 @@
 -- The laws of `bit`. Assumes nothing.
 use mathlib.Core.Path.{_≡_, refl, sym, ap, ap₂, _∙_, subst}
 use mathlib.Core.Logic.{_⊎_, inl, inr}
-use mathlib.Core.Bool.{Bool, true, false, not, _&&_, _||_, false≢true}
+use mathlib.Core.Bool.{Bool, true, false, not, _&&_, _||_}
 use Prim.Native.Nat.{ℕ, zero, suc, _+_, _-_, _*_, _/_, _%_, _^_, _≤_, _<_, min, max}
 use native.Mathlib.Nat.{mod-lt, zero-div, mod-eq-of-lt, add-comm, div-one, lt-of-lt-of-le, div-eq-of-lt, mul-assoc, mul-add-div-right, mul-add-mod-self-right}
 use native.Mathlib.Numerals.{one-add, add-one}
@@ -151,10 +151,6 @@ some-bit (suc k) a h n = go (some-bit k (a / 2) (half-lt k h)) (digit a)
     go : ((a / 2 ≡ 0 → ⊥) → (i : ℕ) × (i < k) × (bit (a / 2) i ≡ true)) → (a % 2 ≡ 0) ⊎ (a % 2 ≡ 1) → (i : ℕ) × (i < suc k) × (bit a i ≡ true)
     go rest (inl e) = let r = rest (λ z. n (omega arith)) in (suc (r .0), omega (arith, r .1), bit-suc a (r .0) ∙ r .2)
     go rest (inr e) = (0, omega arith, num-inj (bit a 0) true (low a ∙ e))
-
--- and one that has a bit set is not 0
-pub bit-pos : (a i : ℕ) → bit a i ≡ true → a ≡ 0 → ⊥
-bit-pos a i e z = false≢true (sym (bit-zero i) ∙ ap (λ (n : ℕ). bit n i) (sym z) ∙ e)
 
 -- the count of ones is the number of bits set
 ones-digit : (n : ℕ) → ones (n % 2) ≡ n % 2

@@ -151,13 +151,6 @@ count-cut n W L live q cut live-at = go (cut .whole)
         ∙ ap (λ (k : ℕ). count k (λ b. ltb b L && q b)) d ∙ count-below L (64 - L) q ∙ ap (λ (k : ℕ). count k q) (e .1)
     go (inr e) = count-full live (λ b h. live-at b ∙ lt-ltb b L (omega (arith, e .0))) W q ∙ ap (λ (k : ℕ). count k q) (e .1)
 
-pub count-by-le : (live w : ℕ) (q : ℕ → Bool) → countBy live w q ≤ w * 64
-count-by-le live zero q = omega arith
-count-by-le live (suc w) q = step (countBy live w q) (count 64 (λ b. bit live b && q (w * 64 + b))) w (count-by-le live w q) (count-le 64 (λ b. bit live b && q (w * 64 + b)))
-  where
-    step : (a c w : ℕ) → a ≤ w * 64 → c ≤ 64 → a + c ≤ suc w * 64
-    step a c w h l = omega arith
-
 -- once all entries are there, more places add none
 pub all-there : (K : ℕ) (p : ℕ → ℕ → Bool) (w W acc : ℕ) → w ≤ W → acc ≡ tableOf K (λ t. any w (p t)) → acc ≡ 2 ^ K - 1
     → acc ≡ tableOf K (λ t. any W (p t))

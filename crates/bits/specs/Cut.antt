@@ -9,10 +9,6 @@ use lib.Dec.{ltb}
 unfoldable pub wordCount : ℕ → ℕ
 wordCount n = cond (ltb n 6) 1 (2 ^ (n - 6))
 
--- how many places of each word are patterns
-unfoldable pub placeCount : ℕ → ℕ
-placeCount n = cond (ltb n 6) (2 ^ n) 64
-
 -- W words of L places hold each pattern at its own place
 pub record Cut (n W L : ℕ) : Type 0 where
   pub words : W ≤ 16

@@ -47,28 +47,30 @@ pub fn input_word(i: usize, w: u64) -> u64
     if i < 6 { INPUT[i] } else { fill(w >> (i - 6)) }
 }
 
+// The table t at the words of one to four inputs. By Davio's expansion: the lower half, and where the last input is 1 its difference
+// from the upper half on top.
 pub fn lut1(t: u64, a: u64) -> u64
     ensures { λ r. ⌜ ((i : ℕ) → i < 64 → bit r i ≡ bit t (number (bit a i ∷ []))) ⌝ }
 {
-    mux(a, fill(t >> 1), fill(t))
+    fill(t) ^ (a & fill(t ^ (t >> 1)))
 }
 
 pub fn lut2(t: u64, a: u64, b: u64) -> u64
     ensures { λ r. ⌜ ((i : ℕ) → i < 64 → bit r i ≡ bit t (number (bit a i ∷ bit b i ∷ []))) ⌝ }
 {
-    mux(b, lut1(t >> 2, a), lut1(t, a))
+    lut1(t, a) ^ (b & lut1(t ^ (t >> 2), a))
 }
 
 pub fn lut3(t: u64, a: u64, b: u64, c: u64) -> u64
     ensures { λ r. ⌜ ((i : ℕ) → i < 64 → bit r i ≡ bit t (number (bit a i ∷ bit b i ∷ bit c i ∷ []))) ⌝ }
 {
-    mux(c, lut2(t >> 4, a, b), lut2(t, a, b))
+    lut2(t, a, b) ^ (c & lut2(t ^ (t >> 4), a, b))
 }
 
 pub fn lut4(t: u64, a: u64, b: u64, c: u64, d: u64) -> u64
     ensures { λ r. ⌜ ((i : ℕ) → i < 64 → bit r i ≡ bit t (number (bit a i ∷ bit b i ∷ bit c i ∷ bit d i ∷ []))) ⌝ }
 {
-    mux(d, lut3(t >> 8, a, b, c), lut3(t, a, b, c))
+    lut3(t, a, b, c) ^ (d & lut3(t ^ (t >> 8), a, b, c))
 }
 
 // Bit i of a number.

@@ -15,15 +15,14 @@ use Rattle.bits.specs.Bit.{bit, differs}
 use Rattle.bits.proofs.Ranges.{by-cases, every-e, every-i, length-places, bit-table}
 use Rattle.bits.proofs.Logic.{imp-e, imp-i, beq-comm, differs-e}
 use Rattle.network.specs.declared.Session.{Session}
-use Rattle.network.specs.declared.Answer.{Answer}
-use Rattle.network.specs.declared.Answer.the-variants.{Done, Refused}
+use Rattle.network.specs.declared.Answer.the-variants.{Done}
 use Rattle.network.specs.Net.{Gate, Net, arity, isGate, noGate, gate, entries, patterns, excluded, excludedFor, entry, run, values, output, entryOf, Replacement, withTable, replaceOne, replaced}
 use Rattle.network.specs.DontCares.{runInverted, valuesInverted, outputKept, odc, full, harms}
 use Rattle.network.specs.Flat.{gatesOf, netOf, loadedNet, currentNet}
-use Rattle.network.specs.Tests.{orElse}
 use Rattle.network.specs.State.{stateFault}
 use Rattle.network.specs.Calls.{gateTest, fits, tableTest, alters, harmTest, verdictOf}
 use Rattle.network.specs.Sessions.{NoHarm, LoneHarmless}
+use Rattle.network.proofs.TestLaws.{alone}
 use Rattle.network.proofs.Laws.{arity-at, length-gates}
 use Rattle.network.proofs.Valid.{state-i, net-ok}
 use Rattle.network.proofs.Earlier.{Earlier, earlier-net, gates-at, gate-bounds, entry-below, entry-keep}
@@ -173,11 +172,7 @@ module _ (s : Session) where
       verdict-is : isGate (loadedNet s) (r .signal) ≡ true → fits (loadedNet s) r ≡ true
           → verdictOf s r ≡ harmTest (loadedNet s) (replaced (currentNet s) (r ∷ []))
       unfolding verdictOf gateTest tableTest
-      verdict-is w k = rw (state-i s valid, w, k) (last (harmTest (loadedNet s) (replaceOne (currentNet s) r)))
-        where
-          last : (a : Answer) → orElse a Done ≡ a
-          last Done = refl
-          last (Refused f) = refl
+      verdict-is w k = rw (state-i s valid, w, k) (sym (alone (harmTest (loadedNet s) (replaceOne (currentNet s) r))))
 
       early : Earlier (currentNet s .inputs) (currentNet s .gates)
       unfolding currentNet netOf

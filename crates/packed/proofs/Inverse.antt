@@ -2,7 +2,7 @@
 -- words that are read as a session and packed again are the same words. So to pack the session that `unpack` gave changes no word, and
 -- `unpack` gives back every valid session that was packed. Assumes nothing.
 use mathlib.Core.Path.{_≡_, refl, sym, ap, _∙_}
-use mathlib.Core.List.{List, [], _∷_, _++_, append-nil}
+use mathlib.Core.List.{List, [], _∷_, _++_}
 use Prim.Native.Nat.{ℕ, _+_, _≤_, _<_}
 use native.Mathlib.Omega.{arith}
 use lib.Dec.{ltb}
@@ -53,10 +53,6 @@ packed-back s behind z =
     let c = cut ws (s .current) opens 347 40 (l .1) (z .currents) in
     let u = cut ws (s .open_tables) behind 387 40 (c .1) (z .opens) in
     sym (reads ws (a .0) (f .0) (o .0) (e .0) (l .0) (c .0) (u .0))
-
--- or none
-pub packed-same : (s : Session) → Sized s → sessionIn (packedOf s) ≡ s
-packed-same s z = rw append-nil at (packed-back s [] z)
 
 -- words read as a session and packed again are the same words
 pub read-back : (ws : List ℕ) → 427 ≤ length ws → packedOf (sessionIn ws) ≡ take 427 ws

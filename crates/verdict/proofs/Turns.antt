@@ -18,6 +18,7 @@ use Rattle.network.specs.declared.Refusal.{Refusal}
 use Rattle.network.specs.declared.Refusal.the-variants.{Harm}
 use Rattle.network.specs.Tests.{orElse}
 use Rattle.network.specs.Calls.{outputFound, firstHarm}
+use Rattle.network.proofs.TestLaws.{alone}
 use Rattle.verdict.specs.Changed.{wordHarm}
 
 -- ## The loop over patterns, at x of those below a
@@ -103,11 +104,7 @@ words-start n W L h p cut =
     ap (λ (c : ℕ). firstHarm (below (2 ^ n) h) p (upFrom 0 c)) q ∙ search-parts (below (2 ^ n) h) p 0 (2 ^ n) (W * 64 - 2 ^ n)
     ∙ ap₂ orElse (search-ext (below (2 ^ n) h) h p 0 (2 ^ n) (λ e l i m. rw (lt-ltb (0 + e) (2 ^ n) (omega arith))))
     (search-none (below (2 ^ n) h) p (0 + 2 ^ n) (W * 64 - 2 ^ n) (λ e l i m. rw (le-ltb (0 + 2 ^ n + e) (2 ^ n) (omega arith))))
-    ∙ last (firstHarm h p (upFrom 0 (2 ^ n)))
-  where
-    last : (a : Answer) → orElse a Done ≡ a
-    last Done = refl
-    last (Refused f) = refl
+    ∙ sym (alone (firstHarm h p (upFrom 0 (2 ^ n))))
 
 module _ (h : ℕ → ℕ → Bool) (p W w : ℕ) where
   words-step : w < W → orElse (wordHarm h p w) (left h p W (w + 1)) ≡ left h p W w
