@@ -123,7 +123,7 @@ pub fn odc_words(
     fanins: &[u8; 240],
     tables: &[u64; 40],
     p: usize,
-    outputs: &[u8; 8],
+    outs: &[u8; 8],
     rows: &[u64; 800],
     count: usize,
     live: u64,
@@ -132,27 +132,15 @@ pub fn odc_words(
     odc: &mut [u64; 640],
 )
     requires { ⌜ NetOk (now arity) (now fanins) n m ⌝ }
-    requires { ⌜ OutputsOk (now outputs) p (n + m) ⌝ }
+    requires { ⌜ OutputsOk (now outs) p (n + m) ⌝ }
     requires { ⌜ (length (now rows) ≡ 800) × Rows (now arity) (now fanins) (now tables) (now rows) n m count ⌝ }
     requires { ⌜ Framed n count live × (e ≤ m) × (length (now odc) ≡ 640) ⌝ }
-    ensures { λ _. ⌜ ((ex : List ℕ) (g : ℕ) → a ≤ g → g < e → OdcAt (netOf (now (arity .entry)) (now (fanins .entry)) (now (tables .entry)) n m ex (now (outputs .entry)) p) (now (odc .exit)) n g count) ⌝ }
+    ensures { λ _. ⌜ ((ex : List ℕ) (g : ℕ) → a ≤ g → g < e → OdcAt (netOf (now (arity .entry)) (now (fanins .entry)) (now (tables .entry)) n m ex (now (outs .entry)) p) (now (odc .exit)) n g count) ⌝ }
 {
     let masks = simulate::fanin_masks(n, m, arity, fanins);
     let mut g = a;
     while g < e {
-        let seen = observed_row(
-            n,
-            m,
-            arity,
-            fanins,
-            tables,
-            p,
-            outputs,
-            &masks,
-            rows,
-            count,
-            g,
-        );
+        let seen = observed_row(n, m, arity, fanins, tables, p, outs, &masks, rows, count, g);
         store_odc(odc, &seen, live, count, g);
         g += 1;
     }

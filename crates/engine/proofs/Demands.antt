@@ -32,7 +32,7 @@ use Rattle.network.proofs.Exchanges.{loaded-length, loaded-inputs, gate-e, open
 use Rattle.network.proofs.Reached.{loaded-fresh, loaded-shaped}
 use Rattle.network.proofs.Harm.{harm-done, harm-at}
 use Rattle.network.proofs.Demand3.{demand3-of, rule4-of}
-use Rattle.netfile.proofs.RoundTrip.{way-back}
+use Rattle.netfile.proofs.RoundTrip.{round-trip}
 use Rattle.engine.specs.Written.{withLength, writtenOf}
 use Rattle.engine.specs.Demands.{Ends, Demand1, lone, Changes, Judged, Reached, Demand2, Demand3}
 use Rattle.engine.proofs.Outcomes.{file, ends, harm-only, tests-end, room-among, state-among, gate-among, table-among, closed-among, harm-among, read-among}
@@ -168,7 +168,7 @@ demand2 = record {
   shown = λ s r x i j. shown-at s r j x i;
   harmless = harmless-is;
   written = λ s buffer v l. ap (withLength (length (bytesOf s))) (fills-done s (bytesOf s) buffer v l);
-  wayBack = λ s shape v. let w = way-back s shape (state-e s v) .1 in
+  roundTrip = λ s shape v. let w = round-trip s shape (state-e s v) .1 in
       (w .session, w .reads, w .loaded, w .current);
   reached = λ bytes s rs b loads. after-reached s (loaded-fresh bytes s loads) rs (loaded-shaped bytes s b loads);
   rule4 = rule4-of;

@@ -111,7 +111,7 @@ pub record Demand2 : Type 0 where
   pub written : (s : Session) (buffer : List ℕ) → stateTest s ≡ Done → length (bytesOf s) ≤ length buffer
       → writtenOf s buffer ≡ record { answer = write.Written (length (bytesOf s)); buffer = overwritten (bytesOf s) buffer }
   -- and read again it is the same network
-  pub wayBack : (s : Session) → Shaped s → stateTest s ≡ Done
+  pub roundTrip : (s : Session) → Shaped s → stateTest s ≡ Done
       → (t : Session) × (loadOf (bytesOf s) ≡ loadDone t) × (loadedNet t ≡ currentNet s) × (currentNet t ≡ currentNet s)
   -- all this holds in every session that a load and exchanges give
   pub reached : (bytes : List ℕ) (s : Session) (rs : List Replacement) → Bytes bytes → loadOf bytes ≡ loadDone s → Reached s (after s rs)

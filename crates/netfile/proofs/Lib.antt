@@ -1,7 +1,7 @@
-pub mod WordsBack
+pub mod WordsRead
 pub mod Laid
-pub mod GatesBack
-pub mod OutputsBack
+pub mod GatesRead
+pub mod OutputsRead
 pub mod RoundTrip
 pub mod Prefix
 pub mod Lengths

@@ -1,2 +1,2 @@
-pub mod WayBack
+pub mod RoundTrip
 pub mod Kind

@@ -13,11 +13,11 @@ use Rattle.dontcares.proofs.observability.odc_words.Statement.{statemen
 use Rattle.dontcares.proofs.observability.odc_words.Tie as tie
 
 abbrev Inv-loop : tie.InvT-loop
-Inv-loop n m arity fanins tables p outputs rows count live a e odc₀ masks g₀ odc g =
-    (length odc ≡ 640) × ((ex : List ℕ) (h : ℕ) → a ≤ h → h < g → OdcAt (netOf arity fanins tables n m ex outputs p) odc n h count)
+Inv-loop n m arity fanins tables p outs rows count live a e odc₀ masks g₀ odc g =
+    (length odc ≡ 640) × ((ex : List ℕ) (h : ℕ) → a ≤ h → h < g → OdcAt (netOf arity fanins tables n m ex outs p) odc n h count)
 
 abbrev μ-loop : tie.MeasureT-loop
-μ-loop n m arity fanins tables p outputs rows count live a e odc₀ masks g₀ odc g = e - g
+μ-loop n m arity fanins tables p outs rows count live a e odc₀ masks g₀ odc g = e - g
 
 few : (s : tie.Start Inv-loop μ-loop) → (s .args .e ≤ 40) × (s .args .count ≤ 16)
 few s = (omega (arith, s .pre .0 .most), s .pre .1 .1 .1 .0 .cut .words)
@@ -54,7 +54,7 @@ loop-again c =
     let s = l .before .before in
     let a = s .args in (
       c .store-odc .ensures .0,
-      λ ex. odc-more (s .pre .1 .1 .1 .0) (netOf (now (a .arity)) (now (a .fanins)) (now (a .tables)) (a .n) (a .m) ex (now (a .outputs)) (a .p)) (l .loop .odc) _ (ob .observed-row .result) (l .loop .g)
+      λ ex. odc-more (s .pre .1 .1 .1 .0) (netOf (now (a .arity)) (now (a .fanins)) (now (a .tables)) (a .n) (a .m) ex (now (a .outs)) (a .p)) (l .loop .odc) _ (ob .observed-row .result) (l .loop .g)
           (c .store-odc .ensures .1) (ob .observed-row .ensures ex) (a .a) (c .store-odc .ensures .2) (l .loop .inv .1 ex),
     )
 

@@ -21,8 +21,8 @@ pub record Returns (read : List ℕ → Loaded) (s : Session) : Type 0 where
   pub loaded : loadedNet session ≡ currentNet s
   pub current : currentNet session ≡ currentNet s
 
-abbrev pub WayBack : Type 0
-WayBack = (s : Session) → Shaped s → stateFault s ≡ Done → Returns readOf s × Returns loadOf s
+abbrev pub RoundTrip : Type 0
+RoundTrip = (s : Session) → Shaped s → stateFault s ≡ Done → Returns readOf s × Returns loadOf s
 
 -- what is written takes at most 519 bytes
 abbrev pub WrittenLength : Type 0
