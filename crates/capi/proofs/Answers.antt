@@ -200,11 +200,6 @@ module _ (y : Answer) (new buffer out : List ℕ) {w : WriteAnswer} {b : List �
       go Done d = cc
       go (Refused f) d = cc
 
--- such a call's answer and its buffer, told as one
-pub whole : (size : ℕ) (f : Filled) {w : WriteAnswer} {b : List ℕ} → w ≡ writeAnswer (f .answer) size → b ≡ f .buffer
-    → record { answer = w; buffer = b } ≡ withLength size f
-whole size f p q = rw (p, q)
-
 -- the session, then the room
 pub names-filling : (s : Session) (needed : ℕ) (buffer : List ℕ) → Names 0 (first (stateTest s ∷ roomTest needed buffer ∷ []))
 names-filling s needed buffer = names-first 0 (stateTest s ∷ roomTest needed buffer ∷ []) (names-state 0 s, (names-room 0 needed buffer, tt))

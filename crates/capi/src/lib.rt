@@ -42,7 +42,7 @@ fn tell_refusal(r: Refusal, out: &mut [u64]) -> u64
         give(&named, out);
         return 14;
     }
-    render::number_of(r)
+    network::number_of(r)
 }
 
 // What was refused before, then 9 where fewer places are lent than needed.
@@ -74,7 +74,7 @@ pub extern "C" fn tusqirma_load(file: &[u8], session: &mut [u64]) -> u64
     let tested = l.answer;
     let a = room(tested, session.len(), 427);
     if let Answer::Refused(r) = a {
-        return render::number_of(r);
+        return network::number_of(r);
     }
     packed::pack(l.session, session);
     0
@@ -89,7 +89,7 @@ pub extern "C" fn tusqirma_tables(session: &[u64], gate: usize, out: &mut [u64])
     let tested = l.answer;
     let a = room(tested, out.len(), 4);
     if let Answer::Refused(r) = a {
-        return render::number_of(r);
+        return network::number_of(r);
     }
     match engine::tables(l.session, gate) {
         TablesAnswer::Given(t) => {
@@ -97,7 +97,7 @@ pub extern "C" fn tusqirma_tables(session: &[u64], gate: usize, out: &mut [u64])
             give(&row, out);
             0
         }
-        TablesAnswer::Refused(r) => render::number_of(r),
+        TablesAnswer::Refused(r) => network::number_of(r),
     }
 }
 
@@ -109,11 +109,11 @@ pub extern "C" fn tusqirma_pattern_sets(session: &[u64], words: &mut [u64]) -> u
     let l = packed::unpack(session);
     let a = l.answer;
     if let Answer::Refused(r) = a {
-        return render::number_of(r);
+        return network::number_of(r);
     }
     let b = engine::pattern_sets(l.session, words);
     if let Answer::Refused(r) = b {
-        return render::number_of(r);
+        return network::number_of(r);
     }
     0
 }
@@ -127,7 +127,7 @@ pub extern "C" fn tusqirma_verdict(session: &[u64], gate: usize, table: u64, out
     let tested = l.answer;
     let a = room(tested, out.len(), 2);
     if let Answer::Refused(r) = a {
-        return render::number_of(r);
+        return network::number_of(r);
     }
     let v = answers::verdict(l.session, gate, table);
     if let Answer::Refused(r) = v {
@@ -150,7 +150,7 @@ pub extern "C" fn tusqirma_exchange(
     let tested = l.answer;
     let a = room(tested, out.len(), 1);
     if let Answer::Refused(r) = a {
-        return render::number_of(r);
+        return network::number_of(r);
     }
     let s = l.session;
     let v = answers::exchange(s, gate, table);
@@ -172,7 +172,7 @@ pub extern "C" fn tusqirma_write(session: &[u64], file: &mut [u8], out: &mut [u6
     let tested = l.answer;
     let a = room(tested, out.len(), 1);
     if let Answer::Refused(r) = a {
-        return render::number_of(r);
+        return network::number_of(r);
     }
     match engine::write(l.session, file) {
         WriteAnswer::Written(n) => {
@@ -180,7 +180,7 @@ pub extern "C" fn tusqirma_write(session: &[u64], file: &mut [u8], out: &mut [u6
             give(&size, out);
             0
         }
-        WriteAnswer::Refused(r) => render::number_of(r),
+        WriteAnswer::Refused(r) => network::number_of(r),
     }
 }
 
@@ -198,7 +198,7 @@ pub extern "C" fn tusqirma_listing(file: &[u8], text: &mut [u8], out: &mut [u64]
             give(&length, out);
             0
         }
-        WriteAnswer::Refused(r) => render::number_of(r),
+        WriteAnswer::Refused(r) => network::number_of(r),
     }
 }
 
@@ -213,7 +213,7 @@ pub extern "C" fn tusqirma_hidden(session: &[u64], out: &mut [u64]) -> u64
     let m = s.m as usize;
     let a = room(tested, out.len(), m);
     if let Answer::Refused(r) = a {
-        return render::number_of(r);
+        return network::number_of(r);
     }
     let c = engine::counts(s);
     let counts = c.counts;
@@ -250,7 +250,7 @@ pub extern "C" fn tusqirma_all_tables(session: &[u64], out: &mut [u64]) -> u64
     let m = s.m as usize;
     let a = room(tested, out.len(), 4 * m);
     if let Answer::Refused(r) = a {
-        return render::number_of(r);
+        return network::number_of(r);
     }
     put_tables(s, out);
     0

@@ -25,7 +25,7 @@ use Rattle.edges.proofs.Laws.{edge-at}
 use Rattle.entries.proofs.By.{by-none, by-lt, by-more}
 use Rattle.simulate.specs.Simulated.{wordsAt}
 use Rattle.simulate.proofs.RowLaws.{words-at}
-use Rattle.compatible.specs.Words.{outputsLeave, edge, shuts, shutIn, shutsAt, shutBy, unshut}
+use Rattle.compatible.specs.Words.{outputsLeave, edge, closes, closedIn, closesAt, closedBy, openBy}
 
 -- one word ANDed: the signals that it is not of keep theirs
 and-at : (hs : List ℕ) (f v x b s : ℕ) (q : Bool) → f < length hs → v ≡ bitAnd (getD hs f 0) x → bit x b ≡ q
@@ -105,16 +105,16 @@ module _ (ks fs ts ws : List ℕ) (start : ℕ → Bool) (n m b : ℕ) where
 
 -- ## One gate of rule 7
 
-pub shut-in-is : (ks fs ws hs ins moved : List ℕ) (n live g k keep : ℕ) → k ≡ getD ks g 0
+pub closed-in-is : (ks fs ws hs ins moved : List ℕ) (n live g k keep : ℕ) → k ≡ getD ks g 0
     → ((r : ℕ) → r < getD ks g 0 → getD ins r 0 ≡ getD ws (getD fs (6 * g + r) 0) 0)
     → ((r : ℕ) → r < getD ks g 0 → getD moved r 0 ≡ getD hs (getD fs (6 * g + r) 0) 0)
     → ((b : ℕ) → b < 64 → bit keep b ≡ (bit live b && not (bit (getD hs (n + g) 0) b)))
-    → tableOf (2 ^ k) (λ t. any 64 (λ b. bit keep b && agree k (entryAt k moved b) (entryAt k ins b) t)) ≡ shutIn ks fs ws hs n live g
-unfolding shutIn
-shut-in-is ks fs ws hs ins moved n live g k keep ek ei ef kept =
+    → tableOf (2 ^ k) (λ t. any 64 (λ b. bit keep b && agree k (entryAt k moved b) (entryAt k ins b) t)) ≡ closedIn ks fs ws hs n live g
+unfolding closedIn
+closed-in-is ks fs ws hs ins moved n live g k keep ek ei ef kept =
     ap (λ (k : ℕ). tableOf (2 ^ k) (λ t. any 64 (λ b. bit keep b && agree k (entryAt k moved b) (entryAt k ins b) t))) ek
-    ∙ table-ext (2 ^ K) (λ t. any 64 (λ b. bit keep b && agree K (entryAt K moved b) (entryAt K ins b) t)) (λ t. any 64 (λ b. bit live b && shuts ks fs ws hs n g t b))
-    (λ t ht. any-ext 64 (λ b. bit keep b && agree K (entryAt K moved b) (entryAt K ins b) t) (λ b. bit live b && shuts ks fs ws hs n g t b)
+    ∙ table-ext (2 ^ K) (λ t. any 64 (λ b. bit keep b && agree K (entryAt K moved b) (entryAt K ins b) t)) (λ t. any 64 (λ b. bit live b && closes ks fs ws hs n g t b))
+    (λ t ht. any-ext 64 (λ b. bit keep b && agree K (entryAt K moved b) (entryAt K ins b) t) (λ b. bit live b && closes ks fs ws hs n g t b)
     (λ b hb. ap₂ (λ (u v : Bool). u && v) (kept b hb) (ap₂ (λ (f e : ℕ). agree K f e t)
     (table-ext K (λ r. bit (getD moved r 0) b) (λ r. bit (getD hs (getD fs (6 * g + r) 0) 0) b) (λ r h. ap (λ (w : ℕ). bit w b) (ef r h)))
     (table-ext K (λ r. bit (getD ins r 0) b) (λ r. bit (getD ws (getD fs (6 * g + r) 0) 0) b) (λ r h. ap (λ (w : ℕ). bit w b) (ei r h))))
@@ -126,28 +126,28 @@ shut-in-is ks fs ws hs ins moved n live g k keep ek ei ef kept =
 -- ## Rule 7, word after word
 
 module _ (ks fs rows hs : List ℕ) (n live g : ℕ) where
-  pub shut-first : 0 ≡ shutBy ks fs rows hs n live 0 g
-  unfolding shutBy
-  shut-first = by-none (2 ^ getD ks g 0) live (shutsAt ks fs rows hs n g)
+  pub closed-first : 0 ≡ closedBy ks fs rows hs n live 0 g
+  unfolding closedBy
+  closed-first = by-none (2 ^ getD ks g 0) live (closesAt ks fs rows hs n g)
 
-  pub shut-step : (w acc x : ℕ) → acc ≡ shutBy ks fs rows hs n live w g → x ≡ shutIn ks fs (wordsAt rows w) (wordsAt hs w) n live g
-      → bitOr acc x ≡ shutBy ks fs rows hs n live (w + 1) g
-  unfolding shutBy shutIn
-  shut-step w acc x e here =
-      by-more (2 ^ getD ks g 0) live (shutsAt ks fs rows hs n g) w acc x (λ t b. bit live b && shuts ks fs (wordsAt rows w) (wordsAt hs w) n g t b) e here
+  pub closed-step : (w acc x : ℕ) → acc ≡ closedBy ks fs rows hs n live w g → x ≡ closedIn ks fs (wordsAt rows w) (wordsAt hs w) n live g
+      → bitOr acc x ≡ closedBy ks fs rows hs n live (w + 1) g
+  unfolding closedBy closedIn
+  closed-step w acc x e here =
+      by-more (2 ^ getD ks g 0) live (closesAt ks fs rows hs n g) w acc x (λ t b. bit live b && closes ks fs (wordsAt rows w) (wordsAt hs w) n g t b) e here
       (λ t ht b hb.
       let i : (w * 64 + b) / 64 ≡ w = omega arith in
       let j : (w * 64 + b) % 64 ≡ b = omega arith in
-      ap₂ (λ (v c : ℕ). bit live b && shuts ks fs (wordsAt rows v) (wordsAt hs v) n g t c) (sym i) (sym j))
+      ap₂ (λ (v c : ℕ). bit live b && closes ks fs (wordsAt rows v) (wordsAt hs v) n g t c) (sym i) (sym j))
 
-  pub shut-all : (w W acc : ℕ) → w ≤ W → acc ≡ shutBy ks fs rows hs n live w g → acc ≡ 2 ^ 2 ^ getD ks g 0 - 1 → acc ≡ shutBy ks fs rows hs n live W g
-  unfolding shutBy
-  shut-all w W acc h e f = all-there (2 ^ getD ks g 0) (λ t v. any 64 (λ b. bit live b && shutsAt ks fs rows hs n g t (v * 64 + b))) w W acc h e f
+  pub closed-all : (w W acc : ℕ) → w ≤ W → acc ≡ closedBy ks fs rows hs n live w g → acc ≡ 2 ^ 2 ^ getD ks g 0 - 1 → acc ≡ closedBy ks fs rows hs n live W g
+  unfolding closedBy
+  closed-all w W acc h e f = all-there (2 ^ getD ks g 0) (λ t v. any 64 (λ b. bit live b && closesAt ks fs rows hs n g t (v * 64 + b))) w W acc h e f
 
-  pub shut-lt : (W x : ℕ) → x ≡ shutBy ks fs rows hs n live W g → x < 2 ^ 2 ^ getD ks g 0
-  unfolding shutBy
-  shut-lt W x e = by-lt (2 ^ getD ks g 0) live (shutsAt ks fs rows hs n g) W x e
+  pub closed-lt : (W x : ℕ) → x ≡ closedBy ks fs rows hs n live W g → x < 2 ^ 2 ^ getD ks g 0
+  unfolding closedBy
+  closed-lt W x e = by-lt (2 ^ getD ks g 0) live (closesAt ks fs rows hs n g) W x e
 
-  pub unshut-is : (W x : ℕ) → x ≡ shutBy ks fs rows hs n live W g → 2 ^ 2 ^ getD ks g 0 - 1 - x ≡ unshut ks fs rows hs n live W g
-  unfolding unshut
-  unshut-is W x e = ap (λ (i : ℕ). 2 ^ 2 ^ getD ks g 0 - 1 - i) e
+  pub open-by-is : (W x : ℕ) → x ≡ closedBy ks fs rows hs n live W g → 2 ^ 2 ^ getD ks g 0 - 1 - x ≡ openBy ks fs rows hs n live W g
+  unfolding openBy
+  open-by-is W x e = ap (λ (i : ℕ). 2 ^ 2 ^ getD ks g 0 - 1 - i) e

@@ -23,7 +23,7 @@ use Rattle.network.proofs.Laws.{arity-at, entry-at, entry-ext, length-gates}
 use Rattle.network.proofs.Earlier.{gates-at, gate-is}
 use Rattle.simulate.specs.Simulated.{Simulated, wordsAt}
 use Rattle.entries.proofs.By.{by-rest}
-use Rattle.compatible.specs.Words.{outputsLeave, CompatibleRows, shuts, shutsAt, shutBy, unshut, perGate, onesIn}
+use Rattle.compatible.specs.Words.{outputsLeave, CompatibleRows, closes, closesAt, closedBy, openBy, perGate, onesIn}
 use Rattle.compatible.proofs.Stores.{word-is, per-gate-ext, counts-by}
 
 -- rule 5 looks at the values through the entries of the gates alone
@@ -122,31 +122,31 @@ module _ (ks fs ts ex outs : List ℕ) (n m p : ℕ) where
             ∙ ap (λ (k : ℕ). agree k (number (map (λ f. compatible N f x) (gateAt ks fs ts g .fanins))) (entry (values N x) (gateAt ks fs ts g)) t) (sym (arity-at ks fs ts g))
             ∙ ap (λ (G : Gate). agree (arity G) (number (map (λ f. compatible N f x) (G .fanins))) (entry (values N x) G) t) (sym (gate-is ks fs ts ex outs n m p g hg))
 
-        pub shuts-is : (t : ℕ) → shuts ks fs ws hs n g t b ≡ comes g t x
+        pub closes-is : (t : ℕ) → closes ks fs ws hs n g t b ≡ comes g t x
         unfolding movedAt
-        shuts-is t = ap₂ (λ (u v : Bool). not u && v) (set-at (n + g) (omega arith)) (delivers-is t)
+        closes-is t = ap₂ (λ (u v : Bool). not u && v) (set-at (n + g) (omega arith)) (delivers-is t)
 
     -- ## All words
 
     module _ (rows hs : List ℕ) (W L live : ℕ) (cut : Cut n W L) (live-at : (b : ℕ) → bit live b ≡ ltb b L) (found : CompatibleRows ks fs ts ex outs rows hs n m p W) where
-      open-is : (g : ℕ) → g < m → unshut ks fs rows hs n live W g ≡ openTable N (n + g)
-      unfolding unshut shutBy openTable closed
+      open-is : (g : ℕ) → g < m → openBy ks fs rows hs n live W g ≡ openTable N (n + g)
+      unfolding openBy closedBy openTable closed
       open-is g hg =
-          by-rest (2 ^ getD ks g 0) live (shutsAt ks fs rows hs n g) n W L (shutBy ks fs rows hs n live W g) cut live-at refl
-          ∙ table-ext (2 ^ getD ks g 0) (λ t. not (any (2 ^ n) (shutsAt ks fs rows hs n g t))) (λ t. not (any (2 ^ n) (comes g t)))
-          (λ t ht. ap not (any-ext (2 ^ n) (shutsAt ks fs rows hs n g t) (comes g t)
+          by-rest (2 ^ getD ks g 0) live (closesAt ks fs rows hs n g) n W L (closedBy ks fs rows hs n live W g) cut live-at refl
+          ∙ table-ext (2 ^ getD ks g 0) (λ t. not (any (2 ^ n) (closesAt ks fs rows hs n g t))) (λ t. not (any (2 ^ n) (comes g t)))
+          (λ t ht. ap not (any-ext (2 ^ n) (closesAt ks fs rows hs n g t) (comes g t)
           (λ y hy.
           let w = y / 64 in
           let b = y % 64 in
           let hw = cut .word y hy in
           let q : w * 64 + b ≡ y = omega arith in
-          shuts-is (wordsAt rows w) w (found .values w hw) b (omega arith) (wordsAt hs w) (found .sets w hw b (omega arith)) g hg t
+          closes-is (wordsAt rows w) w (found .values w hw) b (omega arith) (wordsAt hs w) (found .sets w hw b (omega arith)) g hg t
           ∙ ap (comes g t) q)))
           ∙ ap₂ (λ (k j : ℕ). tableOf (2 ^ k) (λ t. not (any (2 ^ j) (comes g t)))) (sym (ap arity (gate-is ks fs ts ex outs n m p g hg) ∙ arity-at ks fs ts g)) inputs-is
 
       -- rule 7
-      pub opened : perGate m (unshut ks fs rows hs n live W) ≡ perGate m (λ g. openTable N (n + g))
-      opened = per-gate-ext m (unshut ks fs rows hs n live W) (λ g. openTable N (n + g)) open-is
+      pub opened : perGate m (openBy ks fs rows hs n live W) ≡ perGate m (λ g. openTable N (n + g))
+      opened = per-gate-ext m (openBy ks fs rows hs n live W) (λ g. openTable N (n + g)) open-is
 
       module _ (small : live < 2 ^ 64) (l : List ℕ) (words : (g w : ℕ) → g < m → w < W → getD l (16 * g + w) 0 ≡ bitAnd live (getD (wordsAt hs w) (n + g) 0)) where
         -- H of each gate

@@ -27,27 +27,27 @@ pub record CompatibleRows (ks fs ts ex outs rows hs : List ℕ) (n m p len : ℕ
       → bit (getD (wordsAt hs w) s 0) b ≡ compatible (netOf ks fs ts n m ex outs p) s (w * 64 + b)
 
 -- place b of a word, outside gate g's own set, delivers the entry t to it: ws the values, hs the compatible sets
-abbrev pub shuts : (ks fs ws hs : List ℕ) (n g t b : ℕ) → Bool
-shuts ks fs ws hs n g t b =
+abbrev pub closes : (ks fs ws hs : List ℕ) (n g t b : ℕ) → Bool
+closes ks fs ws hs n g t b =
     let k = getD ks g 0 in
     not (bit (getD hs (n + g) 0) b)
     && agree k (tableOf k (λ r. bit (getD hs (getD fs (6 * g + r) 0) 0) b)) (tableOf k (λ r. bit (getD ws (getD fs (6 * g + r) 0) 0) b)) t
 
--- the entries of gate g that some place of live shuts in the word
-unfoldable pub shutIn : (ks fs ws hs : List ℕ) (n live g : ℕ) → ℕ
-shutIn ks fs ws hs n live g = tableOf (2 ^ getD ks g 0) (λ t. any 64 (λ b. bit live b && shuts ks fs ws hs n g t b))
+-- the entries of gate g that some place of live closes in the word
+unfoldable pub closedIn : (ks fs ws hs : List ℕ) (n live g : ℕ) → ℕ
+closedIn ks fs ws hs n live g = tableOf (2 ^ getD ks g 0) (λ t. any 64 (λ b. bit live b && closes ks fs ws hs n g t b))
 
 -- the place of the pattern x in the rows does
-abbrev pub shutsAt : (ks fs rows hs : List ℕ) (n g t x : ℕ) → Bool
-shutsAt ks fs rows hs n g t x = shuts ks fs (wordsAt rows (x / 64)) (wordsAt hs (x / 64)) n g t (x % 64)
+abbrev pub closesAt : (ks fs rows hs : List ℕ) (n g t x : ℕ) → Bool
+closesAt ks fs rows hs n g t x = closes ks fs (wordsAt rows (x / 64)) (wordsAt hs (x / 64)) n g t (x % 64)
 
--- the entries of gate g that some live place of the first w words shuts
-unfoldable pub shutBy : (ks fs rows hs : List ℕ) (n live w g : ℕ) → ℕ
-shutBy ks fs rows hs n live w g = tableBy (2 ^ getD ks g 0) live w (shutsAt ks fs rows hs n g)
+-- the entries of gate g that some live place of the first w words closes
+unfoldable pub closedBy : (ks fs rows hs : List ℕ) (n live w g : ℕ) → ℕ
+closedBy ks fs rows hs n live w g = tableBy (2 ^ getD ks g 0) live w (closesAt ks fs rows hs n g)
 
 -- the entries of gate g that none does
-unfoldable pub unshut : (ks fs rows hs : List ℕ) (n live w g : ℕ) → ℕ
-unshut ks fs rows hs n live w g = 2 ^ 2 ^ getD ks g 0 - 1 - shutBy ks fs rows hs n live w g
+unfoldable pub openBy : (ks fs rows hs : List ℕ) (n live w g : ℕ) → ℕ
+openBy ks fs rows hs n live w g = 2 ^ 2 ^ getD ks g 0 - 1 - closedBy ks fs rows hs n live w g
 
 -- in 40 places, one for each of m gates: what p says, and 0 past the last
 abbrev pub perGate : (m : ℕ) (p : ℕ → ℕ) → List ℕ

@@ -14,7 +14,7 @@ ghost use Rattle.network.specs.Flat.{gateAt, gatesOf, netOf, loadedNet, wordOf}
 ghost use Rattle.network.specs.Valid.{GateOk, NetOk, OutputsOk};
 ghost use Rattle.network.specs.State.{stateFault};
 ghost use Rattle.simulate.specs.Simulated.{wordsAt};
-ghost use Rattle.compatible.specs.Words.{outputsLeave, edge, CompatibleRows, shutIn, shutBy, unshut, perGate, onesIn};
+ghost use Rattle.compatible.specs.Words.{outputsLeave, edge, CompatibleRows, closedIn, closedBy, openBy, perGate, onesIn};
 use network::Answer;
 use network::Session;
 
@@ -158,7 +158,7 @@ fn compatible_rows(
 }
 
 // Rule 7 in word w: the entries of gate g that a place of live, outside the gate's own set, delivers.
-fn shut_in(
+fn closed_in(
     n: usize,
     arity: &[u8; 40],
     fanins: &[u8; 240],
@@ -170,7 +170,7 @@ fn shut_in(
 ) -> u64
     requires { ⌜ (n ≤ 10) × (g < 40) × (w < 16) ⌝ }
     requires { ⌜ GateOk (now arity) (now fanins) g 50 ⌝ }
-    ensures { λ r. ⌜ r ≡ shutIn (now (arity .entry)) (now (fanins .entry)) (wordsAt (now (rows .entry)) w) (wordsAt (now (hs .entry)) w) n live g ⌝ }
+    ensures { λ r. ⌜ r ≡ closedIn (now (arity .entry)) (now (fanins .entry)) (wordsAt (now (rows .entry)) w) (wordsAt (now (hs .entry)) w) n live g ⌝ }
 {
     let ins = simulate::gather_at(arity, fanins, rows, g, w);
     let moved = simulate::gather_at(arity, fanins, hs, g, w);
@@ -179,7 +179,7 @@ fn shut_in(
 }
 
 // The same in all words. Once all entries are delivered, the words left add none.
-fn shut(
+fn closed_by(
     n: usize,
     arity: &[u8; 40],
     fanins: &[u8; 240],
@@ -191,7 +191,7 @@ fn shut(
 ) -> u64
     requires { ⌜ (n ≤ 10) × (g < 40) × (count ≤ 16) ⌝ }
     requires { ⌜ GateOk (now arity) (now fanins) g 50 ⌝ }
-    ensures { λ r. ⌜ r ≡ shutBy (now (arity .entry)) (now (fanins .entry)) (now (rows .entry)) (now (hs .entry)) n live count g ⌝ }
+    ensures { λ r. ⌜ r ≡ closedBy (now (arity .entry)) (now (fanins .entry)) (now (rows .entry)) (now (hs .entry)) n live count g ⌝ }
 {
     let all = bits::mask(entries::entry_count(network::place(arity[g])));
     let mut acc: u64 = 0;
@@ -200,7 +200,7 @@ fn shut(
         if acc == all {
             return acc;
         }
-        acc = acc | shut_in(n, arity, fanins, rows, hs, live, g, w);
+        acc = acc | closed_in(n, arity, fanins, rows, hs, live, g, w);
         w += 1;
     }
     acc
@@ -219,13 +219,13 @@ fn open_from(
 ) -> [u64; 40]
     requires { ⌜ NetOk (now arity) (now fanins) n m ⌝ }
     requires { ⌜ count ≤ 16 ⌝ }
-    ensures { λ r. ⌜ r ≡ perGate m (unshut (now (arity .entry)) (now (fanins .entry)) (now (rows .entry)) (now (hs .entry)) n live count) ⌝ }
+    ensures { λ r. ⌜ r ≡ perGate m (openBy (now (arity .entry)) (now (fanins .entry)) (now (rows .entry)) (now (hs .entry)) n live count) ⌝ }
 {
     let mut opens = [0u64; 40];
     let mut g = 0;
     while g < m {
         let c = entries::entry_count(network::place(arity[g]));
-        let v = bits::rest(c, shut(n, arity, fanins, rows, hs, live, count, g));
+        let v = bits::rest(c, closed_by(n, arity, fanins, rows, hs, live, count, g));
         opens[g] = v;
         g += 1;
     }

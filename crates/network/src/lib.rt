@@ -1,6 +1,7 @@
 ghost use mathlib.Core.Path.{_≡_};
 ghost use Prim.Native.Nat.{_≤_};
 ghost use Rattle.network.specs.Load.{setBytes};
+ghost use Rattle.network.specs.Refusals.{numberOf};
 
 // A session: the loaded and the current network in flat arrays, and the open tables that the load gave.
 // Gate g has its fan-ins at places 6 * g and on; a table has entry t at bit t.
@@ -93,4 +94,29 @@ pub fn set_bytes(n: u8) -> usize
         return 1;
     }
     (bits::power(n as u64) / 8) as usize
+}
+
+// The refusal's number.
+pub fn number_of(r: Refusal) -> u64
+    ensures { λ k. ⌜ (k ≡ numberOf r) × (k ≤ 14) ⌝ }
+{
+    match r {
+        Refusal::Truncated => 1,
+        Refusal::UnexpectedMark => 2,
+        Refusal::OutOfBounds => 3,
+        Refusal::FaninNotEarlier => 4,
+        Refusal::FaninRepeated => 5,
+        Refusal::BitPastEnd => 6,
+        Refusal::NotASignal => 7,
+        Refusal::TrailingBytes => 8,
+        Refusal::BufferTooShort => 9,
+        Refusal::InvalidState => 10,
+        Refusal::NotAGate => 11,
+        Refusal::TableTooWide => 12,
+        Refusal::ClosedEntry(_) => 13,
+        Refusal::Harm {
+            pattern: _,
+            output: _,
+        } => 14,
+    }
 }

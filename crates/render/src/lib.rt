@@ -3,9 +3,9 @@ ghost use mathlib.Core.Path.{_≡_};
 ghost use Prim.Native.Nat.{_+_, _*_, _<_, _≤_};
 ghost use lib.ListN.{length};
 ghost use Rattle.network.specs.Flat.{loadedNet};
-ghost use Rattle.network.specs.Refusals.{numberOf};
-ghost use Rattle.network.specs.Calls.{writeAnswer, countsOf};
+ghost use Rattle.network.specs.Calls.{countsOf};
 ghost use Rattle.netwrite.specs.Laid.{Laid};
+ghost use Rattle.engine.specs.Written.{withLength};
 ghost use Rattle.render.specs.Listing.{digit, header, totals, refusedLine, listingOfNet, listingOf, listingInto};
 ghost use Rattle.render.specs.Text.{number, field, entriesIn, rowAt, rowsAt, setIn, textOf, Ready, Loads};
 use network::Answer;
@@ -208,31 +208,6 @@ fn columns_of(s: Session, hidden: [u64; 40]) -> Columns
     }
 }
 
-// The refusal's number.
-pub fn number_of(r: Refusal) -> u64
-    ensures { λ k. ⌜ (k ≡ numberOf r) × (k ≤ 14) ⌝ }
-{
-    match r {
-        Refusal::Truncated => 1,
-        Refusal::UnexpectedMark => 2,
-        Refusal::OutOfBounds => 3,
-        Refusal::FaninNotEarlier => 4,
-        Refusal::FaninRepeated => 5,
-        Refusal::BitPastEnd => 6,
-        Refusal::NotASignal => 7,
-        Refusal::TrailingBytes => 8,
-        Refusal::BufferTooShort => 9,
-        Refusal::InvalidState => 10,
-        Refusal::NotAGate => 11,
-        Refusal::TableTooWide => 12,
-        Refusal::ClosedEntry(_) => 13,
-        Refusal::Harm {
-            pattern: _,
-            output: _,
-        } => 14,
-    }
-}
-
 fn put_refusal(buf: &mut [u8], k: u64) -> usize
     requires { ⌜ (k < 10000) × (13 ≤ length (now buf)) ⌝ }
     ensures { λ r. ⌜ Laid (now (buf .entry)) 0 (refusedLine k) (now (buf .exit)) r ⌝ }
@@ -251,7 +226,7 @@ pub fn put_listing(buf: &mut [u8], bytes: &[u8]) -> usize
     let l = c.loaded;
     let a = l.answer;
     if let Answer::Refused(r) = a {
-        return put_refusal(buf, number_of(r));
+        return put_refusal(buf, network::number_of(r));
     }
     let s = l.session;
     let hidden = c.counts;
@@ -261,7 +236,7 @@ pub fn put_listing(buf: &mut [u8], bytes: &[u8]) -> usize
 
 // The listing from the start of the buffer, with its length; the rest of the buffer stays.
 pub fn listing(bytes: &[u8], buf: &mut [u8]) -> WriteAnswer
-    ensures { λ r. ⌜ (r ≡ writeAnswer (listingInto (now (bytes .entry)) (now (buf .entry)) .answer) (length (listingOf (now (bytes .entry))))) × (now (buf .exit) ≡ listingInto (now (bytes .entry)) (now (buf .entry)) .buffer) ⌝ }
+    ensures { λ r. ⌜ record { answer = r; buffer = now (buf .exit) } ≡ withLength (length (listingOf (now (bytes .entry)))) (listingInto (now (bytes .entry)) (now (buf .entry))) ⌝ }
 {
     let mut text = [0u8; 1042];
     let n = put_listing(&mut text, bytes);

@@ -6,7 +6,7 @@ use Rattle.network.specs.Calls.{roomTest}
 use Rattle.render.specs.Listing.{listingOf, listingInto}
 use Rattle.capi.specs.Boundary.{listingCall}
 use Rattle.capi.proofs.Names.{names-room}
-use Rattle.capi.proofs.Answers.{whole, written, unwritten}
+use Rattle.capi.proofs.Answers.{written, unwritten}
 use Rattle.capi.proofs.tusqirma_listing.Statement.{statement}
 use Rattle.capi.proofs.tusqirma_listing.Tie as tie
 
@@ -48,7 +48,7 @@ returns-2 c =
     let n = listingOf (a .file .now) in
     rw (le-ltb (length (a .out .now)) 1 (b .if1 .left))
     (written (roomTest (length n) (a .text .now)) n (a .text .now) (a .out .now)
-    (whole (length n) (listingInto (a .file .now) (a .text .now)) (k .listing .ensures .0) (k .listing .ensures .1)) (h .n .given .1) (c .before .before .give .ensures))
+    (k .listing .ensures) (h .n .given .1) (c .before .before .give .ensures))
 
 same-length-3 : tie.Need-same-length-3
 same-length-3 c = search needs
@@ -63,7 +63,7 @@ returns-3 c =
     let n = listingOf (a .file .now) in
     rw (le-ltb (length (a .out .now)) 1 (b .if1 .left))
     (unwritten (roomTest (length n) (a .text .now)) n (a .text .now) (a .out .now)
-    (whole (length n) (listingInto (a .file .now) (a .text .now)) (k .listing .ensures .0) (k .listing .ensures .1)) (names-room 0 (length n) (a .text .now)) (h .r .given .1) (c .number-of .ensures .0))
+    (k .listing .ensures) (names-room 0 (length n) (a .text .now)) (h .r .given .1) (c .number-of .ensures .0))
 
 pub tusqirma-listing-spec : {M : Type 1} → statement M
 tusqirma-listing-spec =

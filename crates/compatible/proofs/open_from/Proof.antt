@@ -8,15 +8,15 @@ use denote.Ref.{now}
 use Rattle.bits.proofs.Ranges.{Changed, unchanged, changed-step}
 use Rattle.network.specs.Valid.{GateOk}
 use Rattle.simulate.proofs.Laws.{later}
-use Rattle.compatible.specs.Words.{unshut}
-use Rattle.compatible.proofs.Laws.{shut-lt, unshut-is}
+use Rattle.compatible.specs.Words.{openBy}
+use Rattle.compatible.proofs.Laws.{closed-lt, open-by-is}
 use Rattle.compatible.proofs.Stores.{per-gate}
 use Rattle.compatible.proofs.open_from.Statement.{statement}
 use Rattle.compatible.proofs.open_from.Tie as tie
 
 abbrev Inv-loop : tie.InvT-loop
 Inv-loop n m arity fanins rows hs live count opens₀ g₀ opens g =
-    (g ≤ m) × (length opens ≡ 40) × Changed (λ q v. unshut arity fanins rows hs n live count q) (replicate 40 0) opens g
+    (g ≤ m) × (length opens ≡ 40) × Changed (λ q v. openBy arity fanins rows hs n live count q) (replicate 40 0) opens g
 
 abbrev μ-loop : tie.MeasureT-loop
 μ-loop n m arity fanins rows hs live count opens₀ g₀ opens g = m - g
@@ -29,7 +29,7 @@ gate-ok c =
 loop-holds : tie.Need-loop-holds Inv-loop μ-loop
 loop-holds c =
     let a = c .args in
-    (omega arith, refl, unchanged (λ q v. unshut (now (a .arity)) (now (a .fanins)) (now (a .rows)) (now (a .hs)) (a .n) (a .live) (a .count) q) (replicate 40 0))
+    (omega arith, refl, unchanged (λ q v. openBy (now (a .arity)) (now (a .fanins)) (now (a .rows)) (now (a .hs)) (a .n) (a .live) (a .count) q) (replicate 40 0))
 
 element-copy-out-place : tie.Need-element-copy-out-place Inv-loop μ-loop
 element-copy-out-place c = omega (arith, c .before .before .pre .0 .most)
@@ -40,8 +40,8 @@ place-requires c κs = search needs
 entry-count-requires : tie.Need-entry-count-requires Inv-loop μ-loop
 entry-count-requires c κs = omega (arith, c .place .ensures, gate-ok (c .before .before) .few)
 
-shut-requires : tie.Need-shut-requires Inv-loop μ-loop
-shut-requires c κs =
+closed-by-requires : tie.Need-closed-by-requires Inv-loop μ-loop
+closed-by-requires c κs =
     let t = c .before .before .before in
     let s = t .before .before in
     ((s .pre .0 .ins, omega (arith, s .pre .0 .most), s .pre .1), gate-ok t)
@@ -53,8 +53,8 @@ rest-requires c κs =
     let l = pl .before .before .before in
     let a = l .before .args in (
       omega (arith, n .entry-count .ensures .1),
-      subst (λ (k : ℕ). c .shut .result < 2 ^ k) (sym (n .entry-count .ensures .0 ∙ ap (λ (k : ℕ). 2 ^ k) (pl .place .ensures)))
-          (shut-lt (now (a .arity)) (now (a .fanins)) (now (a .rows)) (now (a .hs)) (a .n) (a .live) (l .loop .g) (a .count) (c .shut .result) (c .shut .ensures)),
+      subst (λ (k : ℕ). c .closed-by .result < 2 ^ k) (sym (n .entry-count .ensures .0 ∙ ap (λ (k : ℕ). 2 ^ k) (pl .place .ensures)))
+          (closed-lt (now (a .arity)) (now (a .fanins)) (now (a .rows)) (now (a .hs)) (a .n) (a .live) (l .loop .g) (a .count) (c .closed-by .result) (c .closed-by .ensures)),
     )
 
 mul-opens : tie.Need-mul-opens Inv-loop μ-loop
@@ -80,9 +80,9 @@ loop-again c =
     let a = s .args in (
       omega arith,
       simp length-set (l .inv .1),
-      changed-step (λ q v. unshut (now (a .arity)) (now (a .fanins)) (now (a .rows)) (now (a .hs)) (a .n) (a .live) (a .count) q) (replicate 40 0) (l .opens) (l .g) (c .rest .result) (omega (arith, s .pre .0 .most)) (l .inv .2)
-          (c .rest .ensures ∙ ap (λ (k : ℕ). 2 ^ k - 1 - h .shut .result) (n .entry-count .ensures .0 ∙ ap (λ (k : ℕ). 2 ^ k) (pl .place .ensures))
-          ∙ unshut-is (now (a .arity)) (now (a .fanins)) (now (a .rows)) (now (a .hs)) (a .n) (a .live) (l .g) (a .count) (h .shut .result) (h .shut .ensures)),
+      changed-step (λ q v. openBy (now (a .arity)) (now (a .fanins)) (now (a .rows)) (now (a .hs)) (a .n) (a .live) (a .count) q) (replicate 40 0) (l .opens) (l .g) (c .rest .result) (omega (arith, s .pre .0 .most)) (l .inv .2)
+          (c .rest .ensures ∙ ap (λ (k : ℕ). 2 ^ k - 1 - h .closed-by .result) (n .entry-count .ensures .0 ∙ ap (λ (k : ℕ). 2 ^ k) (pl .place .ensures))
+          ∙ open-by-is (now (a .arity)) (now (a .fanins)) (now (a .rows)) (now (a .hs)) (a .n) (a .live) (l .g) (a .count) (h .closed-by .result) (h .closed-by .ensures)),
     )
 
 returns : tie.Need-returns Inv-loop μ-loop
@@ -90,7 +90,7 @@ returns c =
     let a = c .before .before .args in
     let l = c .before .loop in
     let e : l .g ≡ a .m = omega arith in
-    let f : ℕ → ℕ = unshut (now (a .arity)) (now (a .fanins)) (now (a .rows)) (now (a .hs)) (a .n) (a .live) (a .count) in
+    let f : ℕ → ℕ = openBy (now (a .arity)) (now (a .fanins)) (now (a .rows)) (now (a .hs)) (a .n) (a .live) (a .count) in
     per-gate (l .opens) f (a .m) (l .inv .1) (subst (λ (m : ℕ). Changed (λ q v. f q) (replicate 40 0) (l .opens) m) e (l .inv .2))
 
 pub open-from-spec : {M : Type 1} → statement M
@@ -103,7 +103,7 @@ open-from-spec =
     element-copy-out-place
     place-requires
     entry-count-requires
-    shut-requires
+    closed-by-requires
     rest-requires
     mul-opens
     array-write-opens

@@ -1,10 +1,8 @@
 -- `listing`: nothing where the buffer is too short, else the text. Assumes nothing.
-use mathlib.Core.Path.{ap, _∙_}
 use Prim.Native.Nat.{_≤_, _<_}
 use native.Mathlib.Omega.{arith}
 use lib.ListN.{length}
 use borrow.Author.Needs.{needs}
-use Rattle.network.specs.declared.WriteAnswer.the-variants.{Written}
 use Rattle.netwrite.proofs.Laws.{laid-start}
 use Rattle.render.specs.Listing.{listingOf}
 use Rattle.render.proofs.Shown.{text-part, into-short, into-done}
@@ -24,8 +22,7 @@ returns c =
     let x = p .before .before .before .before .args in
     let n = p .put-listing .ensures .behind in
     let h : length (x .buf .now) < length (listingOf (x .bytes .now)) = omega arith in
-    let e = into-short (x .bytes .now) (x .buf .now) h in
-    (rw e, rw e)
+    rw (into-short (x .bytes .now) (x .buf .now) h)
 
 sub-copy : tie.Need-sub-copy
 sub-copy c = search needs
@@ -55,8 +52,7 @@ returns-2 c =
     let h : length text ≤ length (x .buf .now) = omega arith in
     let q = text-part text l (listing-length (x .bytes .now)) (search needs) in
     let w = laid-start (x .buf .now) text (k .copy .last .0) (k .copy .result) h (rw q at (k .copy .ensures)) in
-    let e = into-done (x .bytes .now) (x .buf .now) h in
-    (ap Written (w .0) ∙ rw e, w .1 ∙ rw e)
+    rw (w .0, w .1, into-done (x .bytes .now) (x .buf .now) h)
 
 pub listing-spec : {M : Type 1} → statement M
 listing-spec =

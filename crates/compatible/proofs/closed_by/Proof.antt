@@ -1,16 +1,16 @@
--- `compatible::shut` meets its contract. Assumes nothing.
+-- `compatible::closed_by` meets its contract. Assumes nothing.
 use borrow.Author.Needs.{needs}
 use mathlib.Core.Path.{_≡_, ap, _∙_}
 use Prim.Native.Nat.{ℕ, _-_, _^_, _≤_}
 use native.Mathlib.Omega.{arith}
 use denote.Ref.{now}
-use Rattle.compatible.specs.Words.{shutBy}
-use Rattle.compatible.proofs.Laws.{shut-first, shut-step, shut-all}
-use Rattle.compatible.proofs.shut.Statement.{statement}
-use Rattle.compatible.proofs.shut.Tie as tie
+use Rattle.compatible.specs.Words.{closedBy}
+use Rattle.compatible.proofs.Laws.{closed-first, closed-step, closed-all}
+use Rattle.compatible.proofs.closed_by.Statement.{statement}
+use Rattle.compatible.proofs.closed_by.Tie as tie
 
 abbrev Inv-loop : tie.InvT-loop
-Inv-loop n arity fanins rows hs live count g all acc₀ w₀ acc w = (w ≤ count) × (acc ≡ shutBy arity fanins rows hs n live w g)
+Inv-loop n arity fanins rows hs live count g all acc₀ w₀ acc w = (w ≤ count) × (acc ≡ closedBy arity fanins rows hs n live w g)
 
 abbrev μ-loop : tie.MeasureT-loop
 μ-loop n arity fanins rows hs live count g all acc₀ w₀ acc w = count - w
@@ -28,7 +28,7 @@ mask-requires : tie.Need-mask-requires Inv-loop μ-loop
 mask-requires c κs = omega (arith, c .entry-count .ensures .1)
 
 loop-holds : tie.Need-loop-holds Inv-loop μ-loop
-loop-holds c = let a = c .before .before .before .before .args in (omega arith, shut-first (now (a .arity)) (now (a .fanins)) (now (a .rows)) (now (a .hs)) (a .n) (a .live) (a .g))
+loop-holds c = let a = c .before .before .before .before .args in (omega arith, closed-first (now (a .arity)) (now (a .fanins)) (now (a .rows)) (now (a .hs)) (a .n) (a .live) (a .g))
 
 returns : tie.Need-returns Inv-loop μ-loop
 returns c =
@@ -37,11 +37,11 @@ returns c =
     let ec = ma .before in
     let pl = ec .before in
     let a = pl .before .before .args in
-    shut-all (now (a .arity)) (now (a .fanins)) (now (a .rows)) (now (a .hs)) (a .n) (a .live) (a .g) (l .loop .w) (a .count) (l .loop .acc) (l .loop .inv .0) (l .loop .inv .1)
+    closed-all (now (a .arity)) (now (a .fanins)) (now (a .rows)) (now (a .hs)) (a .n) (a .live) (a .g) (l .loop .w) (a .count) (l .loop .acc) (l .loop .inv .0) (l .loop .inv .1)
     (c .if1 .taken ∙ ma .mask .ensures .0 ∙ ap (λ (i : ℕ). 2 ^ i - 1) (ec .entry-count .ensures .0 ∙ ap (λ (k : ℕ). 2 ^ k) (pl .place .ensures)))
 
-shut-in-requires : tie.Need-shut-in-requires Inv-loop μ-loop
-shut-in-requires c κs =
+closed-in-requires : tie.Need-closed-in-requires Inv-loop μ-loop
+closed-in-requires c κs =
     let s = c .before .before .before .before .before .before .before in
     ((s .pre .0 .0, s .pre .0 .1, omega arith), s .pre .1)
 
@@ -55,17 +55,17 @@ loop-again : tie.Need-loop-again Inv-loop μ-loop
 loop-again c =
     let l = c .before .before .before in
     let a = l .before .before .before .before .before .args in
-    (omega arith, shut-step (now (a .arity)) (now (a .fanins)) (now (a .rows)) (now (a .hs)) (a .n) (a .live) (a .g) (l .loop .w) (l .loop .acc) (c .shut-in .result) (l .loop .inv .1) (c .shut-in .ensures))
+    (omega arith, closed-step (now (a .arity)) (now (a .fanins)) (now (a .rows)) (now (a .hs)) (a .n) (a .live) (a .g) (l .loop .w) (l .loop .acc) (c .closed-in .result) (l .loop .inv .1) (c .closed-in .ensures))
 
 returns-2 : tie.Need-returns-2 Inv-loop μ-loop
 returns-2 c =
     let l = c .before in
     let a = l .before .before .before .before .before .args in
     let e : l .loop .w ≡ a .count = omega arith in
-    l .loop .inv .1 ∙ ap (λ (w : ℕ). shutBy (now (a .arity)) (now (a .fanins)) (now (a .rows)) (now (a .hs)) (a .n) (a .live) w (a .g)) e
+    l .loop .inv .1 ∙ ap (λ (w : ℕ). closedBy (now (a .arity)) (now (a .fanins)) (now (a .rows)) (now (a .hs)) (a .n) (a .live) w (a .g)) e
 
-pub shut-spec : {M : Type 1} → statement M
-shut-spec =
+pub closed-by-spec : {M : Type 1} → statement M
+closed-by-spec =
     tie.close
     (tie.spec
     Inv-loop
@@ -76,7 +76,7 @@ shut-spec =
     mask-requires
     loop-holds
     returns
-    shut-in-requires
+    closed-in-requires
     add-w
     loop-less
     loop-again

@@ -1,4 +1,4 @@
--- `compatible::shut_in` meets its contract. Assumes nothing.
+-- `compatible::closed_in` meets its contract. Assumes nothing.
 use borrow.Author.Needs.{needs}
 use mathlib.Core.Path.{sym, ap, _∙_}
 use mathlib.Core.Bool.{Bool, not, _&&_}
@@ -10,9 +10,9 @@ use Rattle.bits.specs.Bit.{bit}
 use Rattle.bits.proofs.BitLaws.{bit-and}
 use Rattle.simulate.specs.Simulated.{wordsAt}
 use Rattle.simulate.proofs.RowLaws.{words-at}
-use Rattle.compatible.proofs.Laws.{shut-in-is}
-use Rattle.compatible.proofs.shut_in.Statement.{statement}
-use Rattle.compatible.proofs.shut_in.Tie as tie
+use Rattle.compatible.proofs.Laws.{closed-in-is}
+use Rattle.compatible.proofs.closed_in.Statement.{statement}
+use Rattle.compatible.proofs.closed_in.Tie as tie
 
 gather-at-requires : tie.Need-gather-at-requires
 gather-at-requires c κs = search needs
@@ -55,13 +55,13 @@ returns c =
     let g1 = g2 .before in
     let a = g1 .before .args in
     c .reach .ensures
-    ∙ shut-in-is (now (a .arity)) (now (a .fanins)) (wordsAt (now (a .rows)) (a .w)) (wordsAt (now (a .hs)) (a .w)) (g1 .gather-at .result) (g2 .gather-at2 .result) (a .n) (a .live) (a .g) (pl .place .result) (bitAnd (a .live) (i .invert .result))
+    ∙ closed-in-is (now (a .arity)) (now (a .fanins)) (wordsAt (now (a .rows)) (a .w)) (wordsAt (now (a .hs)) (a .w)) (g1 .gather-at .result) (g2 .gather-at2 .result) (a .n) (a .live) (a .g) (pl .place .result) (bitAnd (a .live) (i .invert .result))
     (pl .place .ensures) (g1 .gather-at .ensures) (g2 .gather-at2 .ensures)
     (λ b h. bit-and (a .live) (i .invert .result) b
     ∙ ap (λ (x : Bool). bit (a .live) b && x) (i .invert .ensures b h ∙ ap (λ (y : ℕ). not (bit y b)) (sym (words-at (now (a .hs)) (a .w) (a .n + a .g) (omega arith)))))
 
-pub shut-in-spec : {M : Type 1} → statement M
-shut-in-spec =
+pub closed-in-spec : {M : Type 1} → statement M
+closed-in-spec =
     tie.close
     (tie.spec
     gather-at-requires
