@@ -19,13 +19,13 @@ use network::Answer;
 use network::Session;
 
 // The words of signal s.
-fn row_of(rows: &[u64; 800], s: usize, count: usize) -> [u64; 16]
-    requires { ⌜ (s < 50) × (count ≤ 16) ⌝ }
-    ensures { λ l. ⌜ ((w : ℕ) → w < count → getD l w 0 ≡ getD (wordsAt (now (rows .entry)) w) s 0) ⌝ }
+fn row_of(rows: &[u64; 800], s: usize) -> [u64; 16]
+    requires { ⌜ s < 50 ⌝ }
+    ensures { λ l. ⌜ ((w : ℕ) → w < 16 → getD l w 0 ≡ getD (wordsAt (now (rows .entry)) w) s 0) ⌝ }
 {
     let mut l = [0u64; 16];
     let mut w = 0;
-    while w < count {
+    while w < 16 {
         l[w] = rows[16 * s + w];
         w += 1;
     }
@@ -113,7 +113,7 @@ fn intersected(
     let mut g = m;
     while 0 < g {
         g -= 1;
-        let own = row_of(&hs, n + g, count);
+        let own = row_of(&hs, n + g);
         through_gate(arity, fanins, &edges, rows, count, &own, g, &mut hs);
     }
     hs
@@ -148,7 +148,7 @@ fn compatible_rows(
     let empty = [0u64; 16];
     let mut i = 0;
     while i < n {
-        simulate::store_row(&mut hs, i, &empty, count);
+        simulate::store_row(&mut hs, i, &empty);
         i += 1;
     }
     SignalRows {

@@ -155,14 +155,14 @@ fn input_row(i: usize, count: usize, out: &mut [u64; 16])
     }
 }
 
-// Signal s gets the words of a row.
-pub fn store_row(rows: &mut [u64; 800], s: usize, row: &[u64; 16], count: usize)
-    requires { ⌜ (s < 50) × (count ≤ 16) ⌝ }
+// Signal s gets all words of a row.
+pub fn store_row(rows: &mut [u64; 800], s: usize, row: &[u64; 16])
+    requires { ⌜ s < 50 ⌝ }
     requires { ⌜ length (now rows) ≡ 800 ⌝ }
-    ensures { λ _. ⌜ (length (now (rows .exit)) ≡ 800) × ((w : ℕ) → w < count → wordsAt (now (rows .exit)) w ≡ set (wordsAt (now (rows .entry)) w) s (getD (now (row .entry)) w 0)) ⌝ }
+    ensures { λ _. ⌜ (length (now (rows .exit)) ≡ 800) × ((w : ℕ) → w < 16 → wordsAt (now (rows .exit)) w ≡ set (wordsAt (now (rows .entry)) w) s (getD (now (row .entry)) w 0)) ⌝ }
 {
     let mut w = 0;
-    while w < count {
+    while w < 16 {
         rows[16 * s + w] = row[w];
         w += 1;
     }
@@ -177,7 +177,7 @@ fn input_rows(n: usize, count: usize, rows: &mut [u64; 800])
     let mut i = 0;
     while i < n {
         input_row(i, count, &mut row);
-        store_row(rows, i, &row, count);
+        store_row(rows, i, &row);
         i += 1;
     }
 }
@@ -198,7 +198,7 @@ fn gate_row(
 {
     let mut row = [0u64; 16];
     lut_row(tables[g], arity, fanins, rows, count, g, &mut row);
-    store_row(rows, n + g, &row, count);
+    store_row(rows, n + g, &row);
 }
 
 // The rows of all signals: the inputs', then the gates'.
@@ -299,7 +299,7 @@ fn step(
     if same_row(rows, n + h, &row, count) {
         return changed;
     }
-    store_row(rows, n + h, &row, count);
+    store_row(rows, n + h, &row);
     changed | bits::power((n + h) as u64)
 }
 

@@ -43,7 +43,7 @@ store-row-requires : tie.Need-store-row-requires Inv-loop μ-loop
 store-row-requires c κs =
     let l = c .before .before .before in
     let s = l .before .before .before .before .before in
-    ((omega (arith, s .pre .0 .ins), s .pre .1 .1), l .loop .inv .1)
+    (omega (arith, s .pre .0 .ins), l .loop .inv .1)
 
 add-i : tie.Need-add-i Inv-loop μ-loop
 add-i c = omega (arith, c .before .before .before .before .before .before .before .before .before .pre .0 .ins)
@@ -58,7 +58,7 @@ loop-again c =
       omega arith,
       c .store-row .ensures .0,
       λ w hw b hb x hx.
-          rw (c .store-row .ensures .1 w hw ∙ ap (set (wordsAt (l .hs) w) (l .i)) (getD-replicate {A = ℕ} 16 w 0 0 (omega arith)))
+          rw (c .store-row .ensures .1 w (omega arith) ∙ ap (set (wordsAt (l .hs) w) (l .i)) (getD-replicate {A = ℕ} 16 w 0 0 (omega arith)))
           (zero-step (wordsAt (l .hs) w) (l .i) b x _ (omega (arith, s .pre .0 .ins, words-long (l .hs) w)) (l .inv .2 w hw b hb x hx)),
     )
 

@@ -49,7 +49,7 @@ add-row-of : tie.Need-add-row-of Inv-loop μ-loop
 add-row-of c = omega (arith, room (c .before))
 
 row-of-requires : tie.Need-row-of-requires Inv-loop μ-loop
-row-of-requires c κs = (room (c .before), c .before .before .before .before .before .pre .1 .1)
+row-of-requires c κs = room (c .before)
 
 through-gate-requires : tie.Need-through-gate-requires Inv-loop μ-loop
 through-gate-requires c κs =
@@ -74,7 +74,7 @@ loop-again c =
       λ w b x hw hb hx.
           gate-step (now (a .arity)) (now (a .fanins)) (now (a .tables)) (wordsAt (now (a .rows)) w) (outputsLeave (now (a .outs)) (a .p) (bit (getD (now (a .excluded)) w 0) b)) (a .n) (a .m) b
           (d .edge-tables .result) (wordsAt (l .hs) w) (wordsAt (c .through-gate .last .1 .1 .1 .1 .1 .1 .1 .0) w) g (getD (r .row-of .result) w 0)
-          (omega arith) (r .row-of .ensures w hw) (room t) (d .edge-tables .ensures)
+          (omega arith) (r .row-of .ensures w (omega arith)) (room t) (d .edge-tables .ensures)
           (λ y hy. l .inv .2 w b y hw hb hy ∙ ap (λ (i : ℕ). left (now (a .arity)) (now (a .fanins)) (now (a .tables)) (wordsAt (now (a .rows)) w) (outputsLeave (now (a .outs)) (a .p) (bit (getD (now (a .excluded)) w 0) b)) (a .n) (a .m) b i y) e)
           (λ y. c .through-gate .ensures .1 (now (a .tables)) w b y hw hb) x hx,
     )

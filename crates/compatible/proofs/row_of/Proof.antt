@@ -12,10 +12,10 @@ use Rattle.compatible.proofs.row_of.Statement.{statement}
 use Rattle.compatible.proofs.row_of.Tie as tie
 
 abbrev Inv-loop : tie.InvT-loop
-Inv-loop rows s count l₀ w₀ l w = (w ≤ count) × (length l ≡ 16) × ((v : ℕ) → v < w → getD l v 0 ≡ getD (wordsAt rows v) s 0)
+Inv-loop rows s l₀ w₀ l w = (w ≤ 16) × (length l ≡ 16) × ((v : ℕ) → v < w → getD l v 0 ≡ getD (wordsAt rows v) s 0)
 
 abbrev μ-loop : tie.MeasureT-loop
-μ-loop rows s count l₀ w₀ l w = count - w
+μ-loop rows s l₀ w₀ l w = 16 - w
 
 loop-holds : tie.Need-loop-holds Inv-loop μ-loop
 loop-holds c = (omega arith, refl, λ v h. absurd (omega arith))

@@ -28,7 +28,7 @@ returns : tie.Need-returns
 returns c =
     let l = c .before .before .before in
     let s = l .before .before .before .before in
-    (c .store-row .ensures .0, λ so-far w h. rw (c .store-row .ensures .1 w h) (gate-step _ _ _ _ _ _ _ _ (omega arith) (s .pre .1) (so-far w h) (λ b k. l .lut-row .ensures .1 (now (s .args .tables)) w b h k)))
+    (c .store-row .ensures .0, λ so-far w h. rw (c .store-row .ensures .1 w (omega arith)) (gate-step _ _ _ _ _ _ _ _ (omega arith) (s .pre .1) (so-far w h) (λ b k. l .lut-row .ensures .1 (now (s .args .tables)) w b h k)))
 
 pub gate-row-spec : {M : Type 1} → statement M
 gate-row-spec =

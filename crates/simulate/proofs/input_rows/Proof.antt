@@ -39,7 +39,7 @@ loop-again c =
       omega arith,
       r .input-row .ensures .0,
       c .store-row .ensures .0,
-      λ w h. rw (c .store-row .ensures .1 w h) (input-step (wordsAt (l .rows) w) (l .i) w _ (omega (arith, words-long (l .rows) w)) (l .inv .3 w h) (λ b k. r .input-row .ensures .1 w b h k)),
+      λ w h. rw (c .store-row .ensures .1 w (omega arith)) (input-step (wordsAt (l .rows) w) (l .i) w _ (omega (arith, words-long (l .rows) w)) (l .inv .3 w h) (λ b k. r .input-row .ensures .1 w b h k)),
     )
 
 returns : tie.Need-returns Inv-loop μ-loop

@@ -72,7 +72,7 @@ returns-3 c old m hm sim masked so-far =
     let s = l .before .before .before .before .before .before in
     let a = s .args in
     rw (c .power .ensures) (update-stored (now (a .arity)) (now (a .fanins)) (now (a .before)) (now (a .tables)) old (a .n) m (a .count) sim (now (a .rows)) (a .h) (a .changed) hm (omega arith) (s .pre .1 .0) so-far
-    _ (l .lut-row .ensures .1 (now (a .tables))) _ (st .store-row .ensures .0) (st .store-row .ensures .1))
+    _ (l .lut-row .ensures .1 (now (a .tables))) _ (st .store-row .ensures .0) (λ w h. st .store-row .ensures .1 w (omega arith)))
 
 pub step-spec : {M : Type 1} → statement M
 step-spec =
