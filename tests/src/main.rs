@@ -14,6 +14,7 @@ mod engine;
 mod example;
 mod files;
 mod networks;
+mod program;
 mod random;
 mod reference;
 mod report;
@@ -39,6 +40,7 @@ fn main() {
     let mut report = Report::default();
     report.part("C program", c::compare);
     report.part("binding's example", example::compare);
+    report.part("program's input and output", program::compare);
     report.part("edges", files::edges);
     report.part("order of a file's tests", files::order);
     report.part("damaged files", |r| files::damaged(r, seed, count));
