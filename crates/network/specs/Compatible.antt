@@ -1,6 +1,6 @@
 -- Rules 5 to 7 of 01, 'The sets'. They are of the loaded network and stay for the session. Assumes nothing.
 -- 01's compatible set H of a signal is the field's set of compatible observability don't cares: patterns at which the gates may
--- use their freedom together. 01's open table has the entries that no such pattern keeps closed.
+-- use their freedom together. 01's open table of a gate has the entries that no pattern outside its H can deliver.
 use mathlib.Core.Bool.{Bool, not, cond, _&&_, _||_, Bool·beq}
 use mathlib.Core.List.{List, [], _∷_, map}
 use Prim.Native.Nat.{ℕ, zero, suc, _+_, _^_}
