@@ -26,12 +26,9 @@ fn delivered(k: usize, ins: &[u64; 6], frees: &[u64; 6], keep: u64) -> u64
 
 // The entries that some place of keep delivers. A call for each arity, since the loops of a known arity compile to straight code.
 pub fn reach(k: usize, ins: &[u64; 6], frees: &[u64; 6], keep: u64) -> u64
-    requires { ⌜ k ≤ 4 ⌝ }
+    requires { ⌜ (1 ≤ k) × (k ≤ 4) ⌝ }
     ensures { λ r. ⌜ r ≡ tableOf (2 ^ k) (λ t. any 64 (λ b. bit keep b && agree k (entryAt k (now (frees .entry)) b) (entryAt k (now (ins .entry)) b) t)) ⌝ }
 {
-    if k == 0 {
-        return delivered(0, ins, frees, keep);
-    }
     if k == 1 {
         return delivered(1, ins, frees, keep);
     }

@@ -8,25 +8,25 @@ use native.Mathlib.Omega.{arith}
 use lib.Dec.{ltb}
 use lib.ListN.{length, getD, take, drop, set, length-append, length-set, take-append-drop}
 use lib.Seq.{length-take-le, getD-set-other, drop-set-lt}
-use borrow.Author.Tests.{ltb-true, ltb-false}
-use Rattle.bits.specs.Range.{every}
-use Rattle.bits.proofs.Ranges.{every-e, every-i}
+use borrow.Author.Tests.{ltb-false}
+use Rattle.bits.proofs.Ranges.{every-i}
 use Rattle.network.specs.declared.Session.{Session}
-use Rattle.network.specs.declared.Refusal.the-variants.{BufferTooShort, InvalidState}
+use Rattle.network.specs.declared.Refusal.the-variants.{BufferTooShort}
 use Rattle.network.specs.declared.Answer.{Answer}
 use Rattle.network.specs.declared.Answer.the-variants.{Done, Refused}
 use Rattle.network.specs.State.{stateTest}
 use Rattle.network.specs.Load.{loadDone, onward}
+use Rattle.network.specs.Valid.{Shaped}
 use Rattle.network.specs.Calls.{withCurrent, roomTest, overwritten}
-use Rattle.network.proofs.TestLaws.{passed, kept, clear-e}
-use Rattle.packed.specs.Packed.{bytesHeld, wordsHeld, packedOf, Sized, Narrow, sessionWords, byteWords, sessionIn, bytesTest, wordsTest, unpackOf}
+use Rattle.network.proofs.TestLaws.{passed, clear-e}
+use Rattle.packed.specs.Packed.{bytesHeld, wordsHeld, packedOf, Narrow, sessionWords, byteWords, sessionIn, bytesTest, wordsTest, unpackOf}
 use Rattle.packed.proofs.Laws.{length-bytes, length-words, reads, tested}
-use Rattle.packed.proofs.Parts.{cut, join, regroup, three, part-before, part-behind, part-set, sized-in, narrow-in, fits}
+use Rattle.packed.proofs.Parts.{cut, join, regroup, three, part-before, part-behind, part-set, fits}
 
 -- ## A session and its words
 
 -- a packed session has 427 words
-pub packed-length : (s : Session) → Sized s → length (packedOf s) ≡ 427
+pub packed-length : (s : Session) → Shaped s → length (packedOf s) ≡ 427
 unfolding packedOf
 packed-length s z =
     let a = length-bytes s z in
@@ -35,7 +35,7 @@ packed-length s z =
     omega arith
 
 -- read back it is the same, whatever words stand behind it
-pub packed-back : (s : Session) (behind : List ℕ) → Sized s → sessionIn (packedOf s ++ behind) ≡ s
+pub packed-back : (s : Session) (behind : List ℕ) → Shaped s → sessionIn (packedOf s ++ behind) ≡ s
 unfolding packedOf
 packed-back s behind z =
     let ws = packedOf s ++ behind in
@@ -101,35 +101,19 @@ pub unpack-answer : (ws : List ℕ) → unpackOf ws .answer ≡ wordsTest ws
 unfolding unpackOf
 unpack-answer ws = answered (wordsTest ws) (sessionIn ws)
 
--- what is known of words that `unpack` accepts
-pub record Unpacked (ws : List ℕ) : Type 0 where
-  pub long : 427 ≤ length ws
-  pub valid : stateTest (sessionIn ws) ≡ Done
-  pub sized : Sized (sessionIn ws)
-  pub narrow : Narrow (sessionIn ws)
-  pub whole : unpackOf ws ≡ loadDone (sessionIn ws)
-
-pub unpacked : (ws : List ℕ) → unpackOf ws .answer ≡ Done → Unpacked ws
-unfolding unpackOf wordsTest bytesTest
-unpacked ws e =
-    let d : wordsTest ws ≡ Done = sym (unpack-answer ws) ∙ e in
-    let t = clear-e (roomTest sessionWords ws ∷ bytesTest ws ∷ stateTest (sessionIn ws) ∷ []) d in
-    let h = ltb-false (length ws) 427 (passed (ltb (length ws) 427) BufferTooShort (t .0)) in
-    let b = every-e byteWords (λ i. ltb (getD ws i 0) 256) (kept (every byteWords (λ i. ltb (getD ws i 0) 256)) InvalidState (t .1 .0)) in
-    record {
-      long = h;
-      valid = t .1 .1 .0;
-      sized = sized-in ws h;
-      narrow = narrow-in ws h (λ i l. ltb-true (getD ws i 0) 256 (b i l));
-      whole = ap (λ (a : Answer). onward a (loadDone (sessionIn ws))) d;
-    }
+-- words that `unpack` accepts are enough for a session
+accepted-long : (ws : List ℕ) → unpackOf ws .answer ≡ Done → 427 ≤ length ws
+unfolding wordsTest
+accepted-long ws e =
+    let t = clear-e (roomTest sessionWords ws ∷ bytesTest ws ∷ stateTest (sessionIn ws) ∷ []) (sym (unpack-answer ws) ∙ e) in
+    ltb-false (length ws) 427 (passed (ltb (length ws) 427) BufferTooShort (t .0))
 
 -- to pack the session that `unpack` gave changes no word
 pub repacked : (ws : List ℕ) → unpackOf ws .answer ≡ Done → overwritten (packedOf (sessionIn ws)) ws ≡ ws
-repacked ws e = read-over ws ws (unpacked ws e .long) refl
+repacked ws e = read-over ws ws (accepted-long ws e) refl
 
 -- `unpack` gives back every valid session that was packed, over whatever words
-pub unpacks : (s : Session) (ws : List ℕ) → Sized s → Narrow s → stateTest s ≡ Done → unpackOf (overwritten (packedOf s) ws) ≡ loadDone s
+pub unpacks : (s : Session) (ws : List ℕ) → Shaped s → Narrow s → stateTest s ≡ Done → unpackOf (overwritten (packedOf s) ws) ≡ loadDone s
 unpacks s ws z b v =
     let behind = drop (length (packedOf s)) ws in
     let new = packedOf s ++ behind in

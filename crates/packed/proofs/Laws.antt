@@ -16,11 +16,12 @@ use Rattle.network.specs.declared.Session.{Session}
 use Rattle.network.specs.declared.Refusal.the-variants.{BufferTooShort, InvalidState}
 use Rattle.network.specs.declared.Answer.{Answer}
 use Rattle.network.specs.State.{stateTest}
+use Rattle.network.specs.Valid.{Shaped}
 use Rattle.network.specs.Load.{loadDone, loadRefused, onward}
 use Rattle.network.proofs.TestLaws.{alone}
 use Rattle.netwrite.specs.Laid.{Room, Laid}
 use Rattle.netwrite.proofs.Laws.{Left, left-step, left-room, left-done, laid-append, stored}
-use Rattle.packed.specs.Packed.{bytesHeld, wordsHeld, Sized, byteWords, part, sessionIn, bytesTest, wordsTest, unpackOf}
+use Rattle.packed.specs.Packed.{bytesHeld, wordsHeld, byteWords, part, sessionIn, bytesTest, wordsTest, unpackOf}
 
 -- ## Laying: xs from place `at` on; its first i numbers are laid, the next goes to place a
 
@@ -53,7 +54,7 @@ lay-two {b₁} b xs ys at i e f p = laid-append (laid b xs at e p) (laid b₁ ys
 
 -- ## Reading: the words from place `at` on into b₀, of which the first i are read
 
-pub length-part : (ws : List ℕ) (at c : ℕ) → at + c ≤ length ws → length (part ws at c) ≡ c
+length-part : (ws : List ℕ) (at c : ℕ) → at + c ≤ length ws → length (part ws at c) ≡ c
 length-part ws at c h = length-take-le c (drop at ws) (let n = length-drop at ws in omega arith)
 
 part-more : (ws : List ℕ) (at i : ℕ) → at + i < length ws → part ws at (i + 1) ≡ part ws at i ++ getD ws (at + i) 0 ∷ []
@@ -86,14 +87,14 @@ or-fits a b =
 
 -- ## The whole session
 
-pub length-bytes : (s : Session) → Sized s → length (bytesHeld s) ≡ 291
+pub length-bytes : (s : Session) → Shaped s → length (bytesHeld s) ≡ 291
 length-bytes s z =
     let a = z .arities in
     let b = z .slots in
     let c = z .outs in
     simp length-append (omega arith)
 
-pub length-words : (s : Session) → Sized s → length (wordsHeld s) ≡ 136
+pub length-words : (s : Session) → Shaped s → length (wordsHeld s) ≡ 136
 length-words s z =
     let a = z .words in
     let b = z .loads in

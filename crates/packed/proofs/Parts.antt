@@ -3,16 +3,16 @@ use mathlib.Core.Path.{_≡_, refl, sym, ap, _∙_}
 use mathlib.Core.Bool.{true}
 use mathlib.Core.List.{List, [], _∷_, _++_, append-assoc}
 use Prim.Native.Nat.{ℕ, zero, suc, _+_, _-_, _≤_, _<_}
-use native.Mathlib.Decide.{decLt}
 use native.Mathlib.Omega.{arith}
 use lib.Dec.{ltb}
-use lib.ListN.{length, getD, take, drop, set, List·getD-append, List·getD-eq-default}
-use lib.Seq.{take-add, take-at, drop-at, drop-drop, getD-take, getD-drop, take-set-le, take-set-lt, drop-set-lt, drop-set-add}
+use lib.ListN.{length, getD, take, drop, set, List·getD-append}
+use lib.Seq.{take-add, take-at, drop-at, drop-drop, take-set-le, take-set-lt, drop-set-lt, drop-set-add}
 use borrow.Author.Tests.{lt-ltb}
 use Rattle.network.specs.declared.Session.{Session}
+use Rattle.network.specs.Valid.{Shaped}
 use Rattle.network.proofs.Reached.{Bytes}
-use Rattle.packed.specs.Packed.{bytesHeld, wordsHeld, packedOf, Sized, Narrow, part, sessionIn}
-use Rattle.packed.proofs.Laws.{length-part, length-bytes}
+use Rattle.packed.specs.Packed.{bytesHeld, wordsHeld, packedOf, Narrow, part}
+use Rattle.packed.proofs.Laws.{length-bytes}
 
 -- what stands at a place, and what stands behind it
 pub cut : (ws xs ys : List ℕ) (at n : ℕ) → drop at ws ≡ xs ++ ys → length xs ≡ n → (xs ≡ part ws at n) × (drop (at + n) ws ≡ ys)
@@ -59,15 +59,6 @@ bytes-append (x ∷ xs) ys b c (suc i) = bytes-append xs ys (λ j. b (suc j)) c 
 bytes-front : (xs ys zs : List ℕ) → Bytes xs → (i : ℕ) → i < length xs → getD (xs ++ ys ++ zs) i 0 < 256
 bytes-front xs ys zs b i l = rw (append-assoc xs ys zs, List·getD-append xs (ys ++ zs) 0 i l) (b i)
 
-bytes-part : (ws : List ℕ) (at c : ℕ) → at + c ≤ length ws → ((i : ℕ) → i < at + c → getD ws i 0 < 256) → Bytes (part ws at c)
-bytes-part ws at c h b i = go (decLt i c)
-  where
-    go : Dec (i < c) → getD (part ws at c) i 0 < 256
-    go (yes l) = rw (getD-take c (drop at ws) i 0 l, getD-drop at ws i 0) (b (at + i) (omega arith))
-    go (no l) =
-        let n = length-part ws at c h in
-        rw (List·getD-eq-default (part ws at c) 0 {n = i} (omega arith)) (omega arith)
-
 bytes-held : (s : Session) → Narrow s → Bytes (bytesHeld s)
 bytes-held s b =
     bytes-append (s .n ∷ s .m ∷ s .p ∷ s .arity ++ s .fanins) (s .outputs)
@@ -78,31 +69,8 @@ bytes-held s b =
     (b .slots))
     (b .outs)
 
-pub fits : (s : Session) (behind : List ℕ) → Sized s → Narrow s → (i : ℕ) → i < 291 → ltb (getD (packedOf s ++ behind) i 0) 256 ≡ true
+pub fits : (s : Session) (behind : List ℕ) → Shaped s → Narrow s → (i : ℕ) → i < 291 → ltb (getD (packedOf s ++ behind) i 0) 256 ≡ true
 unfolding packedOf
 fits s behind z b i l =
     let n = length-bytes s z in
     lt-ltb (getD (packedOf s ++ behind) i 0) 256 (bytes-front (bytesHeld s) (wordsHeld s) behind (bytes-held s b) i (omega arith))
-
--- ## What words hold
-
-pub sized-in : (ws : List ℕ) → 427 ≤ length ws → Sized (sessionIn ws)
-unfolding sessionIn
-sized-in ws h = record {
-  arities = length-part ws 3 40 (omega arith);
-  slots = length-part ws 43 240 (omega arith);
-  outs = length-part ws 283 8 (omega arith);
-  words = length-part ws 291 16 (omega arith);
-  loads = length-part ws 307 40 (omega arith);
-  currents = length-part ws 347 40 (omega arith);
-  opens = length-part ws 387 40 (omega arith);
-}
-
-pub narrow-in : (ws : List ℕ) → 427 ≤ length ws → ((i : ℕ) → i < 291 → getD ws i 0 < 256) → Narrow (sessionIn ws)
-unfolding sessionIn
-narrow-in ws h b = record {
-  counts = (b 0 (omega arith), b 1 (omega arith), b 2 (omega arith));
-  arities = bytes-part ws 3 40 (omega arith) (λ i l. b i (omega arith));
-  slots = bytes-part ws 43 240 (omega arith) (λ i l. b i (omega arith));
-  outs = bytes-part ws 283 8 (omega arith) b;
-}

@@ -1,10 +1,9 @@
 -- A session as a list of numbers, one to a word: how a program in another language holds it. Assumes nothing.
-use mathlib.Core.Path.{_≡_}
 use mathlib.Core.Bool.{not}
 use mathlib.Core.List.{List, [], _∷_, _++_}
 use Prim.Native.Nat.{ℕ, _<_}
 use lib.Dec.{ltb}
-use lib.ListN.{length, getD, take, drop}
+use lib.ListN.{getD, take, drop}
 use Rattle.bits.specs.Range.{every}
 use Rattle.network.specs.declared.Session.{Session}
 use Rattle.network.specs.declared.Loaded.{Loaded}
@@ -33,17 +32,7 @@ sessionWords = 427
 abbrev pub byteWords : ℕ
 byteWords = 291
 
--- the lengths of a session's arrays
-pub record Sized (s : Session) : Type 0 where
-  pub arities : length (s .arity) ≡ 40
-  pub slots : length (s .fanins) ≡ 240
-  pub outs : length (s .outputs) ≡ 8
-  pub words : length (s .excluded) ≡ 16
-  pub loads : length (s .loaded) ≡ 40
-  pub currents : length (s .current) ≡ 40
-  pub opens : length (s .open_tables) ≡ 40
-
--- the range of what it holds in bytes
+-- the range of what a session holds in bytes
 pub record Narrow (s : Session) : Type 0 where
   pub counts : (s .n < 256) × (s .m < 256) × (s .p < 256)
   pub arities : (i : ℕ) → getD (s .arity) i 0 < 256

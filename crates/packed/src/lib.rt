@@ -7,7 +7,7 @@ ghost use lib.Seq.{sets};
 ghost use Rattle.bits.specs.Range.{every};
 ghost use Rattle.network.specs.Calls.{withCurrent, overwritten};
 ghost use Rattle.netwrite.specs.Laid.{Room};
-ghost use Rattle.packed.specs.Packed.{bytesHeld, wordsHeld, packedOf, sessionWords, Sized, part, sessionIn, unpackOf};
+ghost use Rattle.packed.specs.Packed.{bytesHeld, wordsHeld, packedOf, sessionWords, part, sessionIn, unpackOf};
 use network::Answer;
 use network::Loaded;
 use network::Refusal;
@@ -49,7 +49,7 @@ pub fn lay_words(words: &mut [u64], at: usize, new: &[u64])
 
 // What a session holds in bytes.
 fn pack_bytes(s: Session, words: &mut [u64])
-    requires { ⌜ (427 ≤ length (now words)) × Sized s ⌝ }
+    requires { ⌜ 427 ≤ length (now words) ⌝ }
     ensures { λ _. ⌜ now (words .exit) ≡ sets (now (words .entry)) 0 (bytesHeld s) ⌝ }
 {
     let counts = [s.n, s.m, s.p];
@@ -64,7 +64,7 @@ fn pack_bytes(s: Session, words: &mut [u64])
 
 // What it holds in words.
 fn pack_words(s: Session, words: &mut [u64])
-    requires { ⌜ (427 ≤ length (now words)) × Sized s ⌝ }
+    requires { ⌜ 427 ≤ length (now words) ⌝ }
     ensures { λ _. ⌜ now (words .exit) ≡ sets (now (words .entry)) 291 (wordsHeld s) ⌝ }
 {
     let excluded = s.excluded;

@@ -19,7 +19,7 @@ use Rattle.netwrite.specs.Laid.{Laid}
 use Rattle.render.specs.Listing.{header, totals, refusedLine, gateRow, rows, setEntries, listingOfNet, listingOf, ListingLength, ListingRoom}
 use Rattle.render.specs.Text.{number}
 use Rattle.render.proofs.Laws.{length-number, length-row, length-totals}
-use Rattle.render.proofs.Shown.{loads, listing-loaded, listing-refused, into-done}
+use Rattle.render.proofs.Shown.{fresh, listing-loaded, listing-refused, into-done}
 
 length-refused : (r : ℕ) → length (refusedLine r) ≤ 1042
 unfolding refusedLine number
@@ -50,7 +50,7 @@ module _ (N : Net) where
 length-for : (bytes : List ℕ) (a : Answer) → loadOf bytes .answer ≡ a → length (listingOf bytes) ≤ 1042
 length-for bytes Done e =
     let s = loadOf bytes .session in
-    let v = net-ok s (loads bytes (loadOf bytes) refl e .valid) in
+    let v = net-ok s (fresh bytes (loadOf bytes) refl e .valid) in
     let few = v .most in
     let m = loaded-length s in
     rw (listing-loaded bytes (loadOf bytes) refl e) (length-net (loadedNet s) (omega arith))

@@ -27,6 +27,7 @@ use Rattle.network.specs.Load.{loadOf}
 use Rattle.network.specs.State.{stateFault}
 use Rattle.network.specs.Calls.{overwritten, countsOf}
 use Rattle.network.proofs.Valid.{state-i}
+use Rattle.network.proofs.Fresh.{Fresh}
 use Rattle.network.proofs.Reached.{loaded-fresh}
 use Rattle.network.proofs.Exchanges.{loaded-length, loaded-inputs}
 use Rattle.compatible.specs.Words.{perGate}
@@ -37,7 +38,7 @@ use Rattle.netwrite.specs.Laid.{Laid}
 use Rattle.netwrite.proofs.Laws.{laid-start}
 use Rattle.render.specs.declared.Columns.{Columns}
 use Rattle.render.specs.Listing.{rows, setEntries, refusedLine, listingOfNet, listingOf, listingInto}
-use Rattle.render.specs.Text.{rowsAt, textOf, Ready, Loads}
+use Rattle.render.specs.Text.{rowsAt, textOf, Ready}
 
 -- ## The columns of a network
 
@@ -87,7 +88,8 @@ counts-of : (s : Session) → stateFault s ≡ Done → countsOf s .counts ≡ p
 unfolding countsOf
 counts-of s e = rw (state-i s e)
 
-module _ (s : Session) (t : Columns) (v : Loads s) (few : s .m ≤ 40) (en : t .n ≡ s .n) (em : t .m ≡ s .m)
+module _ (s : Session) (t : Columns) (valid : stateFault s ≡ Done) (same : s .current ≡ s .loaded) (held : s .open_tables ≡ openTables (loadedNet s))
+    (few : s .m ≤ 40) (en : t .n ≡ s .n) (em : t .m ≡ s .m)
     (k : Tabled (currentNet s) (t .cdc) (t .full) (s .n) (s .m))
     (eo : t .opens ≡ s .open_tables) (eh : t .hidden ≡ countsOf s .counts) where
   pub shown : Shows (loadedNet s) t
@@ -95,15 +97,15 @@ module _ (s : Session) (t : Columns) (v : Loads s) (few : s .m ≤ 40) (en : t .
       let N = loadedNet s in
       let i = loaded-inputs s in
       let m = loaded-length s in
-      let c = current-loaded s (v .same) in
+      let c = current-loaded s same in
       record {
         inputs = en ∙ sym i;
         gates = em ∙ sym m;
         cdc-at = λ g h. k .cdc-at g (omega arith) ∙ rw (c, i);
         full-at = λ g h. k .full-at g (omega arith) ∙ rw (c, i);
-        open-at = λ g h. ap (λ (l : List ℕ). getD l g 0) (eo ∙ v .held ∙ open-tables N)
+        open-at = λ g h. ap (λ (l : List ℕ). getD l g 0) (eo ∙ held ∙ open-tables N)
             ∙ per-gate (length (N .gates)) (λ x. openTable N (N .inputs + x)) g (omega arith) (omega arith);
-        hidden-at = λ g h. ap (λ (l : List ℕ). getD l g 0) (eh ∙ counts-of s (v .valid)) ∙ per-gate (s .m) (λ x. compatibleCount N (s .n + x)) g few (omega arith) ∙ rw i;
+        hidden-at = λ g h. ap (λ (l : List ℕ). getD l g 0) (eh ∙ counts-of s valid) ∙ per-gate (s .m) (λ x. compatibleCount N (s .n + x)) g few (omega arith) ∙ rw i;
       }
 
 hidden-few : (N : Net) (s : ℕ) → N .inputs ≤ 10 → compatibleCount N s ≤ 1024
@@ -127,10 +129,8 @@ shows-ready N t v i m = record {
 -- ## The listing of bytes
 
 module _ (bytes : List ℕ) (l : Loaded) (e : l ≡ loadOf bytes) where
-  pub loads : l .answer ≡ Done → Loads (l .session)
-  loads a =
-      let f = loaded-fresh bytes (l .session) (sym e ∙ ap (λ x. record { answer = x; session = l .session }) a) in
-      record { valid = f .valid; same = f .same; held = f .held }
+  pub fresh : l .answer ≡ Done → Fresh (l .session)
+  fresh a = loaded-fresh bytes (l .session) (sym e ∙ ap (λ x. record { answer = x; session = l .session }) a)
 
   pub listing-loaded : l .answer ≡ Done → listingOf bytes ≡ listingOfNet (loadedNet (l .session))
   unfolding listingOf

@@ -1,15 +1,9 @@
 -- The listing from plain arrays, cut into the pieces that the functions lay. Assumes nothing.
-use mathlib.Core.Path.{_≡_}
 use mathlib.Core.List.{List, [], _∷_, _++_}
 use Prim.Native.Nat.{ℕ, zero, suc, _+_, _≤_, _<_}
 use lib.ListN.{getD}
 use Rattle.bits.specs.Range.{count}
 use Rattle.bits.specs.Bit.{bit}
-use Rattle.network.specs.declared.Session.{Session}
-use Rattle.network.specs.declared.Answer.the-variants.{Done}
-use Rattle.network.specs.Compatible.{openTables}
-use Rattle.network.specs.Flat.{loadedNet}
-use Rattle.network.specs.State.{stateFault}
 use Rattle.render.specs.declared.Columns.{Columns}
 use Rattle.render.specs.Listing.{hex, decimal, header, row, totals, setEntries}
 
@@ -45,9 +39,3 @@ pub record Ready (t : Columns) : Type 0 where
   pub inputs : t .n ≤ 10
   pub gates : t .m ≤ 40
   pub few : (g : ℕ) → g < t .m → getD (t .hidden) g 0 < 10000
-
--- what a load leaves
-pub record Loads (s : Session) : Type 0 where
-  pub valid : stateFault s ≡ Done
-  pub same : s .current ≡ s .loaded
-  pub held : s .open_tables ≡ openTables (loadedNet s)

@@ -2,12 +2,15 @@
 ghost use mathlib.Core.Path.{_≡_};
 ghost use Prim.Native.Nat.{_+_, _*_, _<_, _≤_};
 ghost use lib.ListN.{length};
+ghost use Rattle.network.specs.declared.Answer.the-variants.{Done};
+ghost use Rattle.network.specs.Compatible.{openTables};
 ghost use Rattle.network.specs.Flat.{loadedNet};
+ghost use Rattle.network.specs.State.{stateFault};
 ghost use Rattle.network.specs.Calls.{countsOf};
 ghost use Rattle.netwrite.specs.Laid.{Laid};
 ghost use Rattle.engine.specs.Written.{withLength};
 ghost use Rattle.render.specs.Listing.{digit, header, totals, refusedLine, listingOfNet, listingOf, listingInto};
-ghost use Rattle.render.specs.Text.{number, field, entriesIn, rowAt, rowsAt, setIn, textOf, Ready, Loads};
+ghost use Rattle.render.specs.Text.{number, field, entriesIn, rowAt, rowsAt, setIn, textOf, Ready};
 use network::Answer;
 use network::Refusal;
 use network::Session;
@@ -191,7 +194,8 @@ fn put_text(buf: &mut [u8], t: Columns) -> usize
 
 // What a session shows once it is loaded, with the counts of its gates.
 fn columns_of(s: Session, hidden: [u64; 40]) -> Columns
-    requires { ⌜ Loads s × (hidden ≡ countsOf s .counts) ⌝ }
+    requires { ⌜ (stateFault s ≡ Done) × (s .current ≡ s .loaded) × (s .open_tables ≡ openTables (loadedNet s)) ⌝ }
+    requires { ⌜ hidden ≡ countsOf s .counts ⌝ }
     ensures { λ r. ⌜ Ready r × (textOf r ≡ listingOfNet (loadedNet s)) ⌝ }
 {
     let t = dontcares::all_tables(s);

@@ -89,7 +89,7 @@ pub or-last : {a : Answer} (b : Answer) → a ≡ b → a ≡ orElse b Done
 or-last Done q = q
 or-last (Refused r) q = q
 
-pub joined : (tests more : List Answer) → orElse (first tests) (first more) ≡ first (tests ++ more)
+joined : (tests more : List Answer) → orElse (first tests) (first more) ≡ first (tests ++ more)
 joined [] more = refl
 joined (Done ∷ tests) more = joined tests more
 joined (Refused r ∷ tests) more = refl

@@ -40,7 +40,7 @@ pub fn counts_test(n: u8, m: u8, p: u8) -> Answer
 }
 
 // Whether x is one of the bytes.
-pub fn member(fs: &[u8], x: u8) -> bool
+fn member(fs: &[u8], x: u8) -> bool
     ensures { λ r. ⌜ r ≡ tests.member x (now (fs .entry)) ⌝ }
 {
     let mut t: usize = 0;
@@ -54,7 +54,7 @@ pub fn member(fs: &[u8], x: u8) -> bool
 }
 
 // 4, then 5, of fan-in j: no signal below limit, or listed before.
-pub fn fanin_test(fs: &[u8], limit: u8, j: usize) -> Answer
+fn fanin_test(fs: &[u8], limit: u8, j: usize) -> Answer
     requires { ⌜ j < length (now fs) ⌝ }
     ensures { λ r. ⌜ r ≡ faninTest limit (now (fs .entry)) j ⌝ }
 {
@@ -84,7 +84,7 @@ pub fn fanins_test(fs: &[u8], limit: u8) -> Answer
 }
 
 // 6: a bit set at or past `bits`.
-pub fn width_test(bits: u64, x: u64) -> Answer
+fn width_test(bits: u64, x: u64) -> Answer
     ensures { λ r. ⌜ r ≡ widthTest bits x ⌝ }
 {
     if 64 <= bits {
@@ -202,7 +202,7 @@ fn gates_test(s: Session) -> Answer
 }
 
 // The first of 3 to 7 that the session fails.
-pub fn state_fault(s: Session) -> Answer
+fn state_fault(s: Session) -> Answer
     ensures { λ r. ⌜ r ≡ stateFault s ⌝ }
 {
     let n = s.n;

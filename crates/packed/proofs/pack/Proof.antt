@@ -1,22 +1,25 @@
 -- `pack`: the bytes, and the words behind them. Assumes nothing.
 use mathlib.Core.Path.{_≡_, refl}
 use mathlib.Core.List.{List}
-use Prim.Native.Nat.{ℕ, _+_, _≤_}
+use Prim.Native.Nat.{ℕ, _+_, _^_, _<_, _≤_}
 use native.Mathlib.Omega.{arith}
-use lib.ListN.{length}
+use mir.Syntax.{w64}
+use mir.Val.{Fits}
+use lib.ListN.{length, getD}
 use lib.Seq.{sets}
 use borrow.Author.Needs.{needs}
 use Rattle.network.specs.declared.Session.{Session}
+use Rattle.network.specs.Valid.{Shaped}
 use Rattle.network.specs.Calls.{overwritten}
 use Rattle.netwrite.proofs.Laws.{laid-start}
-use Rattle.packed.specs.Packed.{bytesHeld, wordsHeld, packedOf, Sized}
+use Rattle.packed.specs.Packed.{bytesHeld, wordsHeld, packedOf}
 use Rattle.packed.proofs.Laws.{lay-two, length-bytes}
 use Rattle.packed.proofs.Inverse.{packed-length}
 use Rattle.packed.proofs.pack.Statement.{statement}
 use Rattle.packed.proofs.pack.Tie as tie
 
 -- the two stretches as one, at the start of b
-packs : {b₁ b₂ : List ℕ} (b : List ℕ) (s : Session) → Sized s → 427 ≤ length b → b₁ ≡ sets b 0 (bytesHeld s) → b₂ ≡ sets b₁ 291 (wordsHeld s)
+packs : {b₁ b₂ : List ℕ} (b : List ℕ) (s : Session) → Shaped s → 427 ≤ length b → b₁ ≡ sets b 0 (bytesHeld s) → b₂ ≡ sets b₁ 291 (wordsHeld s)
     → b₂ ≡ overwritten (packedOf s) b
 unfolding packedOf
 packs {b₁} {b₂} b s z h e f =
@@ -38,7 +41,8 @@ returns : tie.Need-returns
 returns c =
     let start = c .before .before .before .before .before .before .before .before .before in
     let s = start .args .s in
-    let z : Sized s = search needs in
+    let wide : (w : ℕ) → getD (s .excluded) w 0 < 2 ^ 64 = λ w. (let f : Fits w64 (getD (s .excluded) w 0) = search needs in omega arith) in
+    let z : Shaped s = search needs in
     packs (start .args .words .now) s z (start .pre) (c .before .before .before .before .before .before .pack-bytes .ensures) (c .before .before .pack-words .ensures)
 
 pub pack-spec : {M : Type 1} → statement M

@@ -1,7 +1,8 @@
 -- `pack_bytes`: the stretches one behind the other. Assumes nothing.
-use mathlib.Core.Path.{refl}
+use mathlib.Core.Path.{_≡_, refl}
 use mathlib.Core.List.{[], _∷_}
 use native.Mathlib.Omega.{arith}
+use lib.ListN.{length}
 use borrow.Author.Needs.{needs}
 use Rattle.packed.proofs.Laws.{lay-four}
 use Rattle.packed.proofs.pack_bytes.Statement.{statement}
@@ -17,19 +18,19 @@ slice-aggregate-lay-bytes-2 : tie.Need-slice-aggregate-lay-bytes-2
 slice-aggregate-lay-bytes-2 c = search needs
 
 lay-bytes-requires-2 : tie.Need-lay-bytes-requires-2
-lay-bytes-requires-2 c κs = let h = c .before .before .before .before .before .before .before .before .before .before .before .pre .1 .arities in omega arith
+lay-bytes-requires-2 c κs = omega (arith, slice-aggregate-lay-bytes-2 c)
 
 slice-aggregate-lay-bytes-3 : tie.Need-slice-aggregate-lay-bytes-3
 slice-aggregate-lay-bytes-3 c = search needs
 
 lay-bytes-requires-3 : tie.Need-lay-bytes-requires-3
-lay-bytes-requires-3 c κs = let h = c .before .before .before .before .before .before .before .before .before .before .before .before .before .before .before .before .pre .1 .slots in omega arith
+lay-bytes-requires-3 c κs = omega (arith, slice-aggregate-lay-bytes-3 c)
 
 slice-aggregate-lay-bytes-4 : tie.Need-slice-aggregate-lay-bytes-4
 slice-aggregate-lay-bytes-4 c = search needs
 
 lay-bytes-requires-4 : tie.Need-lay-bytes-requires-4
-lay-bytes-requires-4 c κs = let h = c .before .before .before .before .before .before .before .before .before .before .before .before .before .before .before .before .before .before .before .before .before .pre .1 .outs in omega arith
+lay-bytes-requires-4 c κs = omega (arith, slice-aggregate-lay-bytes-4 c)
 
 same-length : tie.Need-same-length
 same-length c = search needs
@@ -38,7 +39,8 @@ returns : tie.Need-returns
 returns c =
     let start = c .before .before .before .before .before .before .before .before .before .before .before .before .before .before .before .before .before .before .before .before .before .before .before .before in
     let s = start .args .s in
-    let z = start .pre .1 in
+    let arities : length (s .arity) ≡ 40 = search needs in
+    let slots : length (s .fanins) ≡ 240 = search needs in
     lay-four (start .args .words .now) (s .n ∷ s .m ∷ s .p ∷ []) (s .arity) (s .fanins) (s .outputs) 0 3 43 283
     (c .before .before .before .before .before .before .before .before .before .before .before .before .before .before .before .before .before .lay-bytes .ensures)
     (c .before .before .before .before .before .before .before .before .before .before .before .before .lay-bytes2 .ensures)

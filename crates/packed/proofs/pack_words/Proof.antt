@@ -1,5 +1,7 @@
 -- `pack_words`: the stretches one behind the other. Assumes nothing.
+use mathlib.Core.Path.{_≡_}
 use native.Mathlib.Omega.{arith}
+use lib.ListN.{length}
 use borrow.Author.Needs.{needs}
 use Rattle.packed.proofs.Laws.{lay-four}
 use Rattle.packed.proofs.pack_words.Statement.{statement}
@@ -9,25 +11,25 @@ slice-aggregate-lay-words : tie.Need-slice-aggregate-lay-words
 slice-aggregate-lay-words c = search needs
 
 lay-words-requires : tie.Need-lay-words-requires
-lay-words-requires c κs = let h = c .before .before .before .before .before .before .before .pre .1 .words in omega arith
+lay-words-requires c κs = omega (arith, slice-aggregate-lay-words c)
 
 slice-aggregate-lay-words-2 : tie.Need-slice-aggregate-lay-words-2
 slice-aggregate-lay-words-2 c = search needs
 
 lay-words-requires-2 : tie.Need-lay-words-requires-2
-lay-words-requires-2 c κs = let h = c .before .before .before .before .before .before .before .before .before .before .before .before .pre .1 .loads in omega arith
+lay-words-requires-2 c κs = omega (arith, slice-aggregate-lay-words-2 c)
 
 slice-aggregate-lay-words-3 : tie.Need-slice-aggregate-lay-words-3
 slice-aggregate-lay-words-3 c = search needs
 
 lay-words-requires-3 : tie.Need-lay-words-requires-3
-lay-words-requires-3 c κs = let h = c .before .before .before .before .before .before .before .before .before .before .before .before .before .before .before .before .before .pre .1 .currents in omega arith
+lay-words-requires-3 c κs = omega (arith, slice-aggregate-lay-words-3 c)
 
 slice-aggregate-lay-words-4 : tie.Need-slice-aggregate-lay-words-4
 slice-aggregate-lay-words-4 c = search needs
 
 lay-words-requires-4 : tie.Need-lay-words-requires-4
-lay-words-requires-4 c κs = let h = c .before .before .before .before .before .before .before .before .before .before .before .before .before .before .before .before .before .before .before .before .before .before .pre .1 .opens in omega arith
+lay-words-requires-4 c κs = omega (arith, slice-aggregate-lay-words-4 c)
 
 same-length : tie.Need-same-length
 same-length c = search needs
@@ -36,7 +38,9 @@ returns : tie.Need-returns
 returns c =
     let start = c .before .before .before .before .before .before .before .before .before .before .before .before .before .before .before .before .before .before .before .before .before .before .before .before .before in
     let s = start .args .s in
-    let z = start .pre .1 in
+    let words : length (s .excluded) ≡ 16 = search needs in
+    let loads : length (s .loaded) ≡ 40 = search needs in
+    let currents : length (s .current) ≡ 40 = search needs in
     lay-four (start .args .words .now) (s .excluded) (s .loaded) (s .current) (s .open_tables) 291 307 347 387
     (c .before .before .before .before .before .before .before .before .before .before .before .before .before .before .before .before .before .lay-words .ensures)
     (c .before .before .before .before .before .before .before .before .before .before .before .before .lay-words2 .ensures)

@@ -31,10 +31,11 @@ returns c =
       opens = s .open_tables;
       hidden = a .hidden;
     } in
-    let v = net-ok s (u .before .pre .0 .valid) in
+    let p = u .before .pre .0 in
+    let v = net-ok s (p .0) in
     let few = v .most in
     let m = c .place .ensures in
-    let w = shown s t (u .before .pre .0) few refl m (u .all-tables .ensures) refl (u .before .pre .1) in
+    let w = shown s t (p .0) (p .1) (p .2) few refl m (u .all-tables .ensures) refl (u .before .pre .1) in
     (shows-ready (loadedNet s) t w (v .ins) (omega arith), shows-text (loadedNet s) t w)
 
 pub columns-of-spec : {M : Type 1} → statement M

@@ -2,7 +2,7 @@
 use mathlib.Core.Path.{sym, ap, _∙_}
 use borrow.Author.Needs.{needs}
 use Rattle.render.specs.Listing.{refusedLine}
-use Rattle.render.proofs.Shown.{loads, listing-loaded, listing-refused, counted-load, counted-counts}
+use Rattle.render.proofs.Shown.{fresh, listing-loaded, listing-refused, counted-load, counted-counts}
 use Rattle.render.proofs.put_listing.Statement.{statement}
 use Rattle.render.proofs.put_listing.Tie as tie
 
@@ -40,7 +40,8 @@ columns-of-requires c κs =
     let t = s .before .before .before in
     let bytes = t .before .before .before .args .bytes .now in
     let k = t .load-counted .result in
-    (loads bytes (k .loaded) (counted-load bytes k (t .load-counted .ensures)) (s .enum-told .given .1), counted-counts bytes k (t .load-counted .ensures))
+    let f = fresh bytes (k .loaded) (counted-load bytes k (t .load-counted .ensures)) (s .enum-told .given .1) in
+    ((f .valid, f .same, f .held), counted-counts bytes k (t .load-counted .ensures))
 
 put-text-requires : tie.Need-put-text-requires
 put-text-requires c κs = search needs
