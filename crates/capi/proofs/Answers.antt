@@ -2,14 +2,12 @@
 use mathlib.Core.Path.{_≡_, refl, sym, ap, _∙_}
 use mathlib.Core.Bool.{cond}
 use mathlib.Core.List.{List, [], _∷_}
-use Prim.Native.Nat.{ℕ, _+_, _*_, _-_, _≤_, _<_}
-use native.Mathlib.Numerals.{add-one}
+use Prim.Native.Nat.{ℕ, _+_, _-_, _≤_, _<_}
 use native.Mathlib.Nat.{zero-add}
 use native.Mathlib.Omega.{arith}
 use lib.Dec.{ltb}
 use lib.ListN.{length, getD, take}
-use lib.Seq.{sets}
-use borrow.Author.Tests.{lt-ltb}
+use borrow.Author.Tests.{lt-ltb, le-ltb}
 use Rattle.bits.specs.Range.{places}
 use Rattle.bits.proofs.Ranges.{length-places, places-at, places-ext}
 use Rattle.network.specs.declared.Session.{Session}
@@ -23,23 +21,20 @@ use Rattle.network.specs.declared.WriteAnswer.the-variants as write
 use Rattle.network.specs.declared.Refusal.{Refusal}
 use Rattle.network.specs.declared.Answer.{Answer}
 use Rattle.network.specs.declared.Answer.the-variants.{Done, Refused}
-use Rattle.network.specs.DontCares.{sdc}
 use Rattle.network.specs.Compatible.{compatibleCount}
-use Rattle.network.specs.Flat.{loadedNet, currentNet}
+use Rattle.network.specs.Flat.{loadedNet}
 use Rattle.network.specs.Refusals.{numberOf, valuesOf}
 use Rattle.network.specs.Tests.{first}
 use Rattle.network.specs.State.{stateTest}
 use Rattle.network.specs.Load.{loadOf}
-use Rattle.network.specs.Calls.{gateTest, gateTables, givenTables, tablesOf, Filled, roomTest, overwritten, filled, writeAnswer, countsOf}
+use Rattle.network.specs.Calls.{gateTest, gateTables, givenTables, tablesOf, Filled, roomTest, overwritten, filled, setWords, patternSetsOf, writeAnswer, countsOf}
 use Rattle.network.proofs.TestLaws.{refused-done, alone, count-e}
 use Rattle.network.proofs.Valid.{valid-e, state-e}
-use Rattle.netwrite.specs.Laid.{Laid}
-use Rattle.netwrite.proofs.Laws.{laid-append, laid-length, laid-start, part-places}
-use Rattle.dontcares.specs.Framed.{Tabled}
+use Rattle.netwrite.proofs.Laws.{part-places}
 use Rattle.engine.specs.Written.{Written, withLength}
 use Rattle.engine.proofs.Laws.{counts-done}
 use Rattle.packed.specs.Packed.{packedOf, sessionWords}
-use Rattle.capi.specs.Boundary.{Left, left, loadAnswer, loadCall, tableWords, tablesWork, allTableWords}
+use Rattle.boundary.specs.Boundary.{Left, left, loadAnswer, loadCall, tableWords, tablesWork, patternSetsWork}
 use Rattle.capi.proofs.Names.{Names, names-first, names-room, names-state, names-gate, names-load}
 use Rattle.capi.proofs.Laws.{Leaves, told, refused, done, worked}
 
@@ -88,27 +83,16 @@ module _ (s : Session) (gate : ℕ) (out : List ℕ) (valid : stateTest s ≡ Do
       go Done q = cc
       go (Refused f) q = cc
 
--- ## Tables of all gates: the rows of the first g are laid
+-- ## Pattern sets, which take so many words
 
-module _ (s : Session) (g : ℕ) {b b₁ : List ℕ} (l : Laid b 0 (allTableWords s g) b₁ (4 * g)) where
-  pub row-room : g < s .m → 4 * s .m ≤ length b → 4 * g + 4 ≤ length b₁
-  row-room h r = let n = laid-length l in omega arith
+module _ (s : Session) (words : List ℕ) (valid : stateTest s ≡ Done) {needed : ℕ} (e : needed ≡ length (setWords s (s .m))) where
+  pub sets-short : length words < needed → Leaves (worked (patternSetsWork words s) words []) 9 words []
+  unfolding patternSetsOf
+  sets-short h = rw (valid, lt-ltb (length words) (length (setWords s (s .m))) (rw e at h))
 
-  pub row-next : {cdcs fulls b₂ : List ℕ} {d : ℕ} → Tabled (currentNet s) cdcs fulls (s .n) (s .m) → g < s .m → d ≡ sdc (currentNet s) (s .n + g)
-      → b₂ ≡ sets b₁ (4 * g) (d ∷ getD cdcs g 0 ∷ getD fulls g 0 ∷ getD (s .open_tables) g 0 ∷ [])
-      → Laid b 0 (allTableWords s (g + 1)) b₂ (4 * (g + 1))
-  row-next t h e q =
-      let p : s .n + g - s .n ≡ g = omega arith in
-      rw add-one (laid-append l (record {
-        buffer = q ∙ rw (e, t .cdc-at g h, t .full-at g h, p);
-        behind = omega arith;
-      }))
-
-  pub rows-done : g ≡ s .m → 4 * s .m ≤ length b → b₁ ≡ overwritten (allTableWords s (s .m)) b
-  rows-done e r =
-      let k : Laid b 0 (allTableWords s (s .m)) b₁ (4 * s .m) = rw e at l in
-      let n = k .behind in
-      laid-start b (allTableWords s (s .m)) b₁ (4 * s .m) (omega arith) k .1
+  pub sets-done : {b : List ℕ} → needed ≤ length words → b ≡ overwritten (setWords s (s .m)) words → Leaves (worked (patternSetsWork words s) words []) 0 b []
+  unfolding patternSetsOf
+  sets-done h p = rw (p, valid, le-ltb (length words) (length (setWords s (s .m))) (rw e at h))
 
 -- ## The number of patterns in H of each gate, off an array of 40
 

@@ -19,7 +19,7 @@ use Rattle.network.specs.Load.{loadDone, onward}
 use Rattle.network.specs.Calls.{roomTest, overwritten}
 use Rattle.network.proofs.TestLaws.{passed, clear-e, alone, stopped, went-on}
 use Rattle.packed.specs.Packed.{sessionWords, sessionIn, bytesTest, wordsTest, unpackOf}
-use Rattle.capi.specs.Boundary.{Left, left, Work, onSession}
+use Rattle.boundary.specs.Boundary.{Left, left, Work, onSession}
 use Rattle.capi.proofs.Names.{Names, names-first, names-room, names-words}
 
 -- ## What a call leaves

@@ -1,4 +1,3 @@
 pub mod Names
 pub mod Laws
 pub mod Answers
-pub mod Cases

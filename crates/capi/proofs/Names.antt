@@ -7,15 +7,13 @@ use Prim.Native.Nat.{ℕ, _≤_}
 use native.Mathlib.Omega.{arith}
 use lib.Dec.{ltb}
 use lib.ListN.{length, getD}
-use denote.Enum.Declared.{tagOf}
-use types.Run.{OneOf, miss}
 use Rattle.bits.specs.declared.Found.{Found}
 use Rattle.bits.specs.declared.Found.the-variants.{At, Nothing}
 use Rattle.bits.specs.Range.{every, smallest}
 use Rattle.bits.proofs.Logic.{clash}
 use Rattle.network.specs.declared.Session.{Session}
 use Rattle.network.specs.declared.Refusal.{Refusal}
-use Rattle.network.specs.declared.Refusal.the-variants.{Truncated, UnexpectedMark, OutOfBounds, FaninNotEarlier, FaninRepeated, BitPastEnd, NotASignal, TrailingBytes, BufferTooShort, InvalidState, NotAGate, TableTooWide, ClosedEntry, Harm}
+use Rattle.network.specs.declared.Refusal.the-variants.{BufferTooShort, InvalidState, NotAGate, TableTooWide}
 use Rattle.network.specs.declared.Answer.{Answer}
 use Rattle.network.specs.declared.Answer.the-variants.{Done, Refused}
 use Rattle.network.specs.Net.{Net, isGate, entries, Replacement, replaced}
@@ -25,42 +23,10 @@ use Rattle.network.specs.Tests.{refuseIf, orElse, first}
 use Rattle.network.specs.State.{stateFault, asInvalid, stateTest}
 use Rattle.network.specs.Load.{loadDone, onward, readOf, opened, loadOf}
 use Rattle.network.specs.Calls.{gateTest, fits, tableTest, alters, entryFound, closedTest, harmTest, heldClosed, exchangeTests, exchangeAnswer, verdictOf, roomTest}
-use Rattle.network.proofs.Refusal.{the-type}
 use Rattle.engine.proofs.Outcomes.{Among, harm-only, file, read-among}
 use Rattle.packed.specs.Packed.{sessionWords, byteWords, sessionIn, bytesTest, wordsTest}
-use Rattle.capi.specs.Boundary.{valuesFor}
-
--- ## A refusal that is neither 13 nor 14
-
--- it names nothing
-quiet : (r : Refusal) → ((t : ℕ) → r ≡ ClosedEntry t → ⊥) → ((x i : ℕ) → r ≡ Harm x i → ⊥) → valuesOf r ≡ []
-quiet Truncated p q = refl
-quiet UnexpectedMark p q = refl
-quiet OutOfBounds p q = refl
-quiet FaninNotEarlier p q = refl
-quiet FaninRepeated p q = refl
-quiet BitPastEnd p q = refl
-quiet NotASignal p q = refl
-quiet TrailingBytes p q = refl
-quiet BufferTooShort p q = refl
-quiet InvalidState p q = refl
-quiet NotAGate p q = refl
-quiet TableTooWide p q = refl
-quiet (ClosedEntry t) p q = absurd (p t refl)
-quiet (Harm x i) p q = absurd (q x i refl)
-
--- the places of all variants but 13's, and but 14's
-abbrev pub no13 : List ℕ
-no13 = 0 ∷ 1 ∷ 2 ∷ 3 ∷ 4 ∷ 5 ∷ 6 ∷ 7 ∷ 8 ∷ 9 ∷ 10 ∷ 11 ∷ 13 ∷ []
-
-abbrev pub no14 : List ℕ
-no14 = 0 ∷ 1 ∷ 2 ∷ 3 ∷ 4 ∷ 5 ∷ 6 ∷ 7 ∷ 8 ∷ 9 ∷ 10 ∷ 11 ∷ 12 ∷ []
-
--- the same, of a variant at one of these places
-pub silent : (r : Refusal) → OneOf no13 (tagOf the-type r) → OneOf no14 (tagOf the-type r) → valuesOf r ≡ []
-silent r p q = quiet r (λ t e. miss no13 12 tt (rw e at p)) (λ x i e. miss no14 13 tt (rw e at q))
-
--- ## An answer
+use Rattle.boundary.specs.Boundary.{valuesFor}
+use Rattle.boundary.proofs.Silent.{quiet}
 
 -- it names at most k values
 abbrev pub Names : ℕ → Answer → Type 0

@@ -1,62 +1,12 @@
 // The calls for programs in other languages. A slice is passed as a pointer and a length. None has a `requires`.
 // Each returns the number of its refusal, or 0; a refusal changes nothing but the values that it names in `out`.
 ghost use mathlib.Core.Path.{_≡_};
-ghost use mathlib.Core.List.{[], _∷_};
-ghost use Prim.Native.Nat.{_*_, _≤_};
-ghost use lib.Dec.{ltb};
-ghost use lib.ListN.{length};
-ghost use Rattle.network.specs.declared.Answer.the-variants.{Done};
-ghost use Rattle.network.specs.declared.Refusal.the-variants.{BufferTooShort};
-ghost use Rattle.network.specs.Refusals.{numberOf, valuesOf};
-ghost use Rattle.network.specs.Tests.{refuseIf, first};
-ghost use Rattle.network.specs.State.{stateFault};
-ghost use Rattle.network.specs.Calls.{overwritten};
+ghost use mathlib.Core.List.{[]};
 ghost use Rattle.packed.specs.Packed.{sessionWords};
-ghost use Rattle.capi.specs.Boundary.{loadCall, listingCall, tablesCall, allTableWords, allTablesCall, patternSetsCall, hiddenCall, verdictCall, exchangeCall, writeCall};
+ghost use Rattle.boundary.specs.Boundary.{loadCall, listingCall, tablesCall, allTablesCall, patternSetsCall, hiddenCall, verdictCall, exchangeCall, writeCall};
 use network::Answer;
-use network::Refusal;
-use network::Session;
 use network::TablesAnswer;
 use network::WriteAnswer;
-
-// Values at the start of `out`; the words behind them stay.
-fn give(values: &[u64], out: &mut [u64])
-    requires { ⌜ length (now values) ≤ length (now out) ⌝ }
-    ensures { λ _. ⌜ now (out .exit) ≡ overwritten (now (values .entry)) (now (out .entry)) ⌝ }
-{
-    packed::lay_words(out, 0, values);
-}
-
-// What a refusal names goes to the start of `out`; its number is given back.
-fn tell_refusal(r: Refusal, out: &mut [u64]) -> u64
-    requires { ⌜ length (valuesOf r) ≤ length (now out) ⌝ }
-    ensures { λ k. ⌜ (k ≡ numberOf r) × (now (out .exit) ≡ overwritten (valuesOf r) (now (out .entry))) ⌝ }
-{
-    if let Refusal::ClosedEntry(t) = r {
-        let named = [t as u64];
-        give(&named, out);
-        return 13;
-    }
-    if let Refusal::Harm { pattern, output } = r {
-        let named = [pattern as u64, output as u64];
-        give(&named, out);
-        return 14;
-    }
-    network::number_of(r)
-}
-
-// What was refused before, then 9 where fewer places are lent than needed.
-fn room(a: Answer, lent: usize, needed: usize) -> Answer
-    ensures { λ r. ⌜ r ≡ first (a ∷ refuseIf (ltb lent needed) BufferTooShort ∷ []) ⌝ }
-{
-    if let Answer::Refused(_) = a {
-        return a;
-    }
-    if lent < needed {
-        return Answer::Refused(Refusal::BufferTooShort);
-    }
-    Answer::Done
-}
 
 // The words that a session takes.
 #[no_mangle]
@@ -72,7 +22,7 @@ pub extern "C" fn tusqirma_load(file: &[u8], session: &mut [u64]) -> u64
 {
     let l = engine::load(file);
     let tested = l.answer;
-    let a = room(tested, session.len(), 427);
+    let a = boundary::room(tested, session.len(), 427);
     if let Answer::Refused(r) = a {
         return network::number_of(r);
     }
@@ -87,14 +37,14 @@ pub extern "C" fn tusqirma_tables(session: &[u64], gate: usize, out: &mut [u64])
 {
     let l = packed::unpack(session);
     let tested = l.answer;
-    let a = room(tested, out.len(), 4);
+    let a = boundary::room(tested, out.len(), 4);
     if let Answer::Refused(r) = a {
         return network::number_of(r);
     }
     match engine::tables(l.session, gate) {
         TablesAnswer::Given(t) => {
             let row = [t.sdc, t.cdc, t.full, t.open_table];
-            give(&row, out);
+            boundary::give(&row, out);
             0
         }
         TablesAnswer::Refused(r) => network::number_of(r),
@@ -107,14 +57,15 @@ pub extern "C" fn tusqirma_pattern_sets(session: &[u64], words: &mut [u64]) -> u
     ensures { λ r. ⌜ record { number = r; buffer = now (words .exit); out = [] } ≡ patternSetsCall (now (session .entry)) (now (words .entry)) ⌝ }
 {
     let l = packed::unpack(session);
-    let a = l.answer;
-    if let Answer::Refused(r) = a {
+    let tested = l.answer;
+    if let Answer::Refused(r) = tested {
         return network::number_of(r);
     }
-    let b = engine::pattern_sets(l.session, words);
-    if let Answer::Refused(r) = b {
-        return network::number_of(r);
+    let s = l.session;
+    if words.len() < patternsets::words_needed(s) {
+        return 9;
     }
+    patternsets::fill(s, words);
     0
 }
 
@@ -125,13 +76,13 @@ pub extern "C" fn tusqirma_verdict(session: &[u64], gate: usize, table: u64, out
 {
     let l = packed::unpack(session);
     let tested = l.answer;
-    let a = room(tested, out.len(), 2);
+    let a = boundary::room(tested, out.len(), 2);
     if let Answer::Refused(r) = a {
         return network::number_of(r);
     }
     let v = answers::verdict(l.session, gate, table);
     if let Answer::Refused(r) = v {
-        return tell_refusal(r, out);
+        return boundary::tell_refusal(r, out);
     }
     0
 }
@@ -148,14 +99,14 @@ pub extern "C" fn tusqirma_exchange(
 {
     let l = packed::unpack(session);
     let tested = l.answer;
-    let a = room(tested, out.len(), 1);
+    let a = boundary::room(tested, out.len(), 1);
     if let Answer::Refused(r) = a {
         return network::number_of(r);
     }
     let s = l.session;
     let v = answers::exchange(s, gate, table);
     if let Answer::Refused(r) = v {
-        return tell_refusal(r, out);
+        return boundary::tell_refusal(r, out);
     }
     let n = s.n as usize;
     let g = gate - n;
@@ -170,14 +121,14 @@ pub extern "C" fn tusqirma_write(session: &[u64], file: &mut [u8], out: &mut [u6
 {
     let l = packed::unpack(session);
     let tested = l.answer;
-    let a = room(tested, out.len(), 1);
-    if let Answer::Refused(r) = a {
+    let answer = boundary::room(tested, out.len(), 1);
+    if let Answer::Refused(r) = answer {
         return network::number_of(r);
     }
     match engine::write(l.session, file) {
         WriteAnswer::Written(n) => {
             let size = [n as u64];
-            give(&size, out);
+            boundary::give(&size, out);
             0
         }
         WriteAnswer::Refused(r) => network::number_of(r),
@@ -195,7 +146,7 @@ pub extern "C" fn tusqirma_listing(file: &[u8], text: &mut [u8], out: &mut [u64]
     match render::listing(file, text) {
         WriteAnswer::Written(n) => {
             let length = [n as u64];
-            give(&length, out);
+            boundary::give(&length, out);
             0
         }
         WriteAnswer::Refused(r) => network::number_of(r),
@@ -211,32 +162,14 @@ pub extern "C" fn tusqirma_hidden(session: &[u64], out: &mut [u64]) -> u64
     let tested = l.answer;
     let s = l.session;
     let m = s.m as usize;
-    let a = room(tested, out.len(), m);
+    let a = boundary::room(tested, out.len(), m);
     if let Answer::Refused(r) = a {
         return network::number_of(r);
     }
     let c = engine::counts(s);
     let counts = c.counts;
-    give(&counts[0..m], out);
+    boundary::give(&counts[0..m], out);
     0
-}
-
-// The tables of each gate of a session, gate after gate.
-fn put_tables(s: Session, out: &mut [u64])
-    requires { ⌜ (stateFault s ≡ Done) × (4 * s .m ≤ length (now out)) ⌝ }
-    ensures { λ _. ⌜ now (out .exit) ≡ overwritten (allTableWords s (s .m)) (now (out .entry)) ⌝ }
-{
-    let m = s.m as usize;
-    let t = dontcares::all_tables(s);
-    let opens = s.open_tables;
-    let cdc = t.cdc;
-    let full = t.full;
-    let mut g: usize = 0;
-    while g < m {
-        let row = [dontcares::sdc(s, g), cdc[g], full[g], opens[g]];
-        packed::lay_words(out, 4 * g, &row);
-        g += 1;
-    }
 }
 
 // The SDC, CDC, full and open table of every gate.
@@ -248,10 +181,10 @@ pub extern "C" fn tusqirma_all_tables(session: &[u64], out: &mut [u64]) -> u64
     let tested = l.answer;
     let s = l.session;
     let m = s.m as usize;
-    let a = room(tested, out.len(), 4 * m);
+    let a = boundary::room(tested, out.len(), 4 * m);
     if let Answer::Refused(r) = a {
         return network::number_of(r);
     }
-    put_tables(s, out);
+    boundary::put_tables(s, out);
     0
 }

@@ -3,7 +3,7 @@ use mathlib.Core.Path.{refl}
 use mathlib.Core.List.{[]}
 use borrow.Author.Needs.{needs}
 use Rattle.network.proofs.Valid.{state-e}
-use Rattle.capi.specs.Boundary.{allTablesWork, allTablesCall}
+use Rattle.boundary.specs.Boundary.{allTablesWork, allTablesCall}
 use Rattle.capi.proofs.Laws.{done, down, opens}
 use Rattle.capi.proofs.tusqirma_all_tables.Statement.{statement}
 use Rattle.capi.proofs.tusqirma_all_tables.Tie as tie

@@ -11,7 +11,7 @@ use Rattle.network.specs.Calls.{stored, withCurrent, overwritten}
 use Rattle.network.proofs.Valid.{state-e}
 use Rattle.answers.proofs.Named.{exchange-named}
 use Rattle.packed.specs.Packed.{packedOf}
-use Rattle.capi.specs.Boundary.{exchangeWork, exchangeCall}
+use Rattle.boundary.specs.Boundary.{exchangeWork, exchangeCall}
 use Rattle.capi.proofs.Names.{named-room, names-exchange}
 use Rattle.capi.proofs.Laws.{down, opens}
 use Rattle.capi.proofs.Answers.{judged-refused, judged-done}

@@ -4,7 +4,7 @@ use mathlib.Core.List.{List, []}
 use Prim.Native.Nat.{ℕ}
 use borrow.Author.Needs.{needs}
 use Rattle.network.specs.Calls.{overwritten}
-use Rattle.capi.specs.Boundary.{hiddenWork, hiddenCall}
+use Rattle.boundary.specs.Boundary.{hiddenWork, hiddenCall}
 use Rattle.capi.proofs.Laws.{done, down, opens}
 use Rattle.capi.proofs.Answers.{counts-long, counts-part, counts-few}
 use Rattle.capi.proofs.tusqirma_hidden.Statement.{statement}

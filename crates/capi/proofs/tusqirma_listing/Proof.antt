@@ -4,7 +4,7 @@ use borrow.Author.Needs.{needs}
 use borrow.Author.Tests.{lt-ltb, le-ltb}
 use Rattle.network.specs.Calls.{roomTest}
 use Rattle.render.specs.Listing.{listingOf, listingInto}
-use Rattle.capi.specs.Boundary.{listingCall}
+use Rattle.boundary.specs.Boundary.{listingCall}
 use Rattle.capi.proofs.Names.{names-room}
 use Rattle.capi.proofs.Answers.{written, unwritten}
 use Rattle.capi.proofs.tusqirma_listing.Statement.{statement}

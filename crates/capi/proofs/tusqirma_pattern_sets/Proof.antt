@@ -1,23 +1,20 @@
 -- `capi::tusqirma_pattern_sets` meets its contract. Assumes nothing.
-use mathlib.Core.Path.{refl}
-use mathlib.Core.List.{[], _∷_}
-use lib.ListN.{length}
+use mathlib.Core.Path.{sym}
+use mathlib.Core.List.{[]}
 use borrow.Author.Needs.{needs}
-use Rattle.network.specs.Tests.{first}
-use Rattle.network.specs.State.{stateTest}
-use Rattle.network.specs.Calls.{roomTest, setWords, patternSetsOf}
 use Rattle.network.proofs.TestLaws.{alone}
-use Rattle.capi.specs.Boundary.{patternSetsWork, patternSetsCall}
+use Rattle.network.proofs.Valid.{state-e}
+use Rattle.boundary.specs.Boundary.{patternSetsWork, patternSetsCall}
 use Rattle.capi.proofs.Laws.{down, opens}
-use Rattle.capi.proofs.Answers.{filled-refused, filled-done, names-filling}
+use Rattle.capi.proofs.Answers.{sets-short, sets-done}
 use Rattle.capi.proofs.tusqirma_pattern_sets.Statement.{statement}
 use Rattle.capi.proofs.tusqirma_pattern_sets.Tie as tie
 
 unpack-requires : tie.Need-unpack-requires
 unpack-requires c κs = search needs
 
-enum-known-a : tie.Need-enum-known-a
-enum-known-a c = search needs
+enum-known-tested : tie.Need-enum-known-tested
+enum-known-tested c = search needs
 
 number-of-requires : tie.Need-number-of-requires
 number-of-requires c κs = search needs
@@ -28,68 +25,65 @@ returns c =
     let t = c .before .before .before .before in
     let a = t .before .before .before .args in
     down (patternSetsWork (a .words .now)) (a .session .now) (a .words .now) [] (t .unpack .ensures) (alone (t .unpack .result .answer))
-    (c .before .before .a .given .1) (c .number-of .ensures .0)
+    (c .before .before .tested .given .1) (c .number-of .ensures .0)
 
 enum-told : tie.Need-enum-told
 enum-told c = search needs
 
-pattern-sets-requires : tie.Need-pattern-sets-requires
-pattern-sets-requires c κs = search needs
+words-needed-requires : tie.Need-words-needed-requires
+words-needed-requires c κs =
+    let k = c .before in
+    let t = k .before .before in
+    let a = t .before .before .before .args in
+    let x = opens (patternSetsWork (a .words .now)) (a .session .now) (a .words .now) [] (t .unpack .ensures) (alone (t .unpack .result .answer)) (k .enum-told .given .1) in
+    state-e (t .unpack .result .session) (x .valid)
 
-enum-known-b : tie.Need-enum-known-b
-enum-known-b c = search needs
+returns-2 : tie.Need-returns-2
+unfolding patternSetsCall
+returns-2 c =
+    let w = c .before in
+    let k = w .before .before in
+    let t = k .before .before in
+    let a = t .before .before .before .args in
+    let x = opens (patternSetsWork (a .words .now)) (a .session .now) (a .words .now) [] (t .unpack .ensures) (alone (t .unpack .result .answer)) (k .enum-told .given .1) in
+    x .leaves (sets-short (t .unpack .result .session) (a .words .now) (x .valid) (w .words-needed .ensures) (c .if1 .taken))
 
-number-of-requires-2 : tie.Need-number-of-requires-2
-number-of-requires-2 c κs = search needs
+fill-requires : tie.Need-fill-requires
+fill-requires c κs =
+    let b = c .before in
+    let w = b .before in
+    let k = w .before .before in
+    let t = k .before .before in
+    let a = t .before .before .before .args in
+    let x = opens (patternSetsWork (a .words .now)) (a .session .now) (a .words .now) [] (t .unpack .ensures) (alone (t .unpack .result .answer)) (k .enum-told .given .1) in
+    (state-e (t .unpack .result .session) (x .valid), rw (sym (w .words-needed .ensures)) (b .if1 .left))
 
 same-length : tie.Need-same-length
 same-length c = search needs
 
-returns-2 : tie.Need-returns-2
-unfolding patternSetsCall patternSetsOf
-returns-2 c =
-    let h = c .before .before in
-    let k = h .before .before .before .before in
-    let t = k .before .before .before .before in
-    let a = t .before .before .before .args in
-    let x = opens (patternSetsWork (a .words .now)) (a .session .now) (a .words .now) [] (t .unpack .ensures) (alone (t .unpack .result .answer)) (k .before .before .enum-told .given .1) in
-    let s = t .unpack .result .session in
-    let n = setWords s (s .m) in
-    let y = first (stateTest s ∷ roomTest (length n) (a .words .now) ∷ []) in
-    x .leaves (filled-refused y [] n (a .words .now) [] (k .pattern-sets .ensures) (names-filling s (length n) (a .words .now)) (h .b .given .1) (c .number-of2 .ensures .0))
-
-enum-told-2 : tie.Need-enum-told-2
-enum-told-2 c = search needs
-
-same-length-2 : tie.Need-same-length-2
-same-length-2 c = search needs
-
 returns-3 : tie.Need-returns-3
-unfolding patternSetsCall patternSetsOf
+unfolding patternSetsCall
 returns-3 c =
-    let k = c .before .before .before .before in
-    let t = k .before .before .before .before in
+    let f = c .before .before in
+    let b = f .before .before in
+    let w = b .before in
+    let k = w .before .before in
+    let t = k .before .before in
     let a = t .before .before .before .args in
-    let x = opens (patternSetsWork (a .words .now)) (a .session .now) (a .words .now) [] (t .unpack .ensures) (alone (t .unpack .result .answer)) (k .before .before .enum-told .given .1) in
-    let s = t .unpack .result .session in
-    let n = setWords s (s .m) in
-    let y = first (stateTest s ∷ roomTest (length n) (a .words .now) ∷ []) in
-    x .leaves (filled-done y [] n (a .words .now) [] (k .pattern-sets .ensures) (c .enum-told2 .given .1) refl)
+    let x = opens (patternSetsWork (a .words .now)) (a .session .now) (a .words .now) [] (t .unpack .ensures) (alone (t .unpack .result .answer)) (k .enum-told .given .1) in
+    x .leaves (sets-done (t .unpack .result .session) (a .words .now) (x .valid) (w .words-needed .ensures) (b .if1 .left) (f .fill .ensures))
 
 pub tusqirma-pattern-sets-spec : {M : Type 1} → statement M
 tusqirma-pattern-sets-spec =
     tie.close
     (tie.spec
     unpack-requires
-    enum-known-a
+    enum-known-tested
     number-of-requires
     returns
     enum-told
-    pattern-sets-requires
-    enum-known-b
-    number-of-requires-2
-    same-length
+    words-needed-requires
     returns-2
-    enum-told-2
-    same-length-2
+    fill-requires
+    same-length
     returns-3)

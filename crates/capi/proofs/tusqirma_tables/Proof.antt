@@ -1,7 +1,7 @@
 -- `capi::tusqirma_tables` meets its contract. Assumes nothing.
 use mathlib.Core.List.{[]}
 use borrow.Author.Needs.{needs}
-use Rattle.capi.specs.Boundary.{tablesWork, tablesCall}
+use Rattle.boundary.specs.Boundary.{tablesWork, tablesCall}
 use Rattle.capi.proofs.Laws.{down, opens}
 use Rattle.capi.proofs.Answers.{tables-given, tables-refused}
 use Rattle.capi.proofs.tusqirma_tables.Statement.{statement}

@@ -4,7 +4,7 @@ use mathlib.Core.List.{[]}
 use borrow.Author.Needs.{needs}
 use Rattle.network.specs.Net.{Replacement}
 use Rattle.network.proofs.Valid.{state-e}
-use Rattle.capi.specs.Boundary.{verdictWork, verdictCall}
+use Rattle.boundary.specs.Boundary.{verdictWork, verdictCall}
 use Rattle.capi.proofs.Names.{named-room, names-verdict}
 use Rattle.capi.proofs.Laws.{down, opens}
 use Rattle.capi.proofs.Answers.{judged-refused, judged-done}

@@ -7,7 +7,7 @@ use Rattle.network.specs.State.{stateTest}
 use Rattle.network.specs.Write.{bytesOf}
 use Rattle.network.specs.Calls.{roomTest, writeOf}
 use Rattle.engine.specs.Written.{writtenOf}
-use Rattle.capi.specs.Boundary.{writeWork, writeCall}
+use Rattle.boundary.specs.Boundary.{writeWork, writeCall}
 use Rattle.capi.proofs.Laws.{down, opens}
 use Rattle.capi.proofs.Answers.{written, unwritten, names-filling}
 use Rattle.capi.proofs.tusqirma_write.Statement.{statement}
@@ -19,8 +19,8 @@ unpack-requires c κs = search needs
 room-requires : tie.Need-room-requires
 room-requires c κs = search needs
 
-enum-known-a : tie.Need-enum-known-a
-enum-known-a c = search needs
+enum-known-answer : tie.Need-enum-known-answer
+enum-known-answer c = search needs
 
 number-of-requires : tie.Need-number-of-requires
 number-of-requires c κs = search needs
@@ -30,7 +30,7 @@ unfolding writeCall
 returns c =
     let t = c .before .before .before .before in
     let a = t .before .before .before .before .before .args in
-    down (writeWork (a .file .now)) (a .session .now) (a .file .now) (a .out .now) (t .before .unpack .ensures) (t .room .ensures) (c .before .before .a .given .1) (c .number-of .ensures .0)
+    down (writeWork (a .file .now)) (a .session .now) (a .file .now) (a .out .now) (t .before .unpack .ensures) (t .room .ensures) (c .before .before .answer .given .1) (c .number-of .ensures .0)
 
 enum-told : tie.Need-enum-told
 enum-told c = search needs
@@ -99,7 +99,7 @@ tusqirma-write-spec =
     (tie.spec
     unpack-requires
     room-requires
-    enum-known-a
+    enum-known-answer
     number-of-requires
     returns
     enum-told

@@ -6,7 +6,7 @@ use lib.ListN.{set, take, replicate}
 use Rattle.network.specs.Net.{Replacement}
 use Rattle.network.specs.Cases.{twinBytes, twinSession}
 use Rattle.packed.specs.Packed.{packedOf}
-use Rattle.capi.specs.Boundary.{Left, loadCall, listingCall, tablesCall, allTablesCall, patternSetsCall, hiddenCall, verdictCall, exchangeCall, writeCall}
+use Rattle.boundary.specs.Boundary.{Left, loadCall, listingCall, tablesCall, allTablesCall, patternSetsCall, hiddenCall, verdictCall, exchangeCall, writeCall}
 
 -- the twin network's session, with one word behind it
 abbrev pub words : List ℕ

@@ -14,8 +14,8 @@ use Rattle.network.specs.Calls.{gateTest, tableTest, alters, closedTest, harmTe
 use Rattle.bits.specs.Cut.{wordCount}
 use Rattle.render.specs.Listing.{decimal, refusedLine, listingOf, listingInto}
 use Rattle.packed.specs.Packed.{packedOf, sessionIn, bytesTest, wordsTest}
-use Rattle.capi.specs.Boundary.{loadCall, listingCall, tablesCall, allTablesCall, patternSetsCall, hiddenCall, verdictCall, exchangeCall, writeCall}
-use Rattle.capi.specs.Cases.{cases}
+use Rattle.boundary.specs.Boundary.{loadCall, listingCall, tablesCall, allTablesCall, patternSetsCall, hiddenCall, verdictCall, exchangeCall, writeCall}
+use Rattle.boundary.specs.Cases.{cases}
 
 pub cases-hold : map (λ c. c .0) cases ≡ map (λ c. c .1) cases
 unfolding bit isGate excluded excludedFor occurs patternOrder entry values sdc cdc valuesInverted odc full harms agree constant turns freeFanins atOutputs compatibleFrom compatible compatibleCount delivers closed openTable openTables gateAt gatesOf netOf loadedNet currentNet wordOf wordsOf markTest faninTest faninsTest excludedTest gateFault stateFault stateTest outputRecord readOutputs gateRecord readGates excludedRecord readBody headerRecord readOf loadOf headerBytes excludedBytes gateBytes outputBytes bytesOf gateTest tableTest alters closedTest harmTest exchangeAnswer verdictOf patternSetsOf writeOf wordCount packedOf sessionIn bytesTest wordsTest decimal refusedLine listingOf listingInto loadCall listingCall tablesCall allTablesCall patternSetsCall hiddenCall verdictCall exchangeCall writeCall

@@ -1,9 +1,9 @@
--- `capi::give` meets its contract. Assumes nothing.
+-- `boundary::give` meets its contract. Assumes nothing.
 use mathlib.Core.Path.{refl}
 use borrow.Author.Needs.{needs}
 use Rattle.netwrite.proofs.Laws.{laid-start}
-use Rattle.capi.proofs.give.Statement.{statement}
-use Rattle.capi.proofs.give.Tie as tie
+use Rattle.boundary.proofs.give.Statement.{statement}
+use Rattle.boundary.proofs.give.Tie as tie
 
 lay-words-requires : tie.Need-lay-words-requires
 lay-words-requires c κs = search needs

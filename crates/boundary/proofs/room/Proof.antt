@@ -1,8 +1,8 @@
--- `capi::room` meets its contract. Assumes nothing.
+-- `boundary::room` meets its contract. Assumes nothing.
 use borrow.Author.Needs.{needs}
 use borrow.Author.Tests.{lt-ltb, le-ltb}
-use Rattle.capi.proofs.room.Statement.{statement}
-use Rattle.capi.proofs.room.Tie as tie
+use Rattle.boundary.proofs.room.Statement.{statement}
+use Rattle.boundary.proofs.room.Tie as tie
 
 enum-told : tie.Need-enum-told
 enum-told c = search needs

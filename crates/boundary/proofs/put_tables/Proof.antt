@@ -1,4 +1,4 @@
--- `capi::put_tables`: the rows of the gates passed are laid. Assumes nothing.
+-- `boundary::put_tables`: the rows of the gates passed are laid. Assumes nothing.
 use mathlib.Core.Path.{refl}
 use Prim.Native.Nat.{_*_, _-_, _≤_}
 use native.Mathlib.Omega.{arith}
@@ -7,10 +7,10 @@ use Rattle.network.proofs.TestLaws.{count-e}
 use Rattle.network.proofs.Valid.{valid-e}
 use Rattle.netwrite.specs.Laid.{Laid}
 use Rattle.netwrite.proofs.Laws.{laid-length}
-use Rattle.capi.specs.Boundary.{allTableWords}
-use Rattle.capi.proofs.Answers.{row-room, row-next, rows-done}
-use Rattle.capi.proofs.put_tables.Statement.{statement}
-use Rattle.capi.proofs.put_tables.Tie as tie
+use Rattle.boundary.specs.Boundary.{allTableWords}
+use Rattle.boundary.proofs.Rows.{row-room, row-next, rows-done}
+use Rattle.boundary.proofs.put_tables.Statement.{statement}
+use Rattle.boundary.proofs.put_tables.Tie as tie
 
 abbrev Inv-loop : tie.InvT-loop
 Inv-loop s out₀ m opens cdc full g₀ out g = (g ≤ m) × (m ≤ 40) × Laid out₀ 0 (allTableWords s g) out (4 * g)

@@ -1,9 +1,9 @@
--- `capi::tell_refusal` meets its contract. Assumes nothing.
+-- `boundary::tell_refusal` meets its contract. Assumes nothing.
 use mathlib.Core.Path.{refl}
 use borrow.Author.Needs.{needs}
-use Rattle.capi.proofs.Names.{silent}
-use Rattle.capi.proofs.tell_refusal.Statement.{statement}
-use Rattle.capi.proofs.tell_refusal.Tie as tie
+use Rattle.boundary.proofs.Silent.{silent}
+use Rattle.boundary.proofs.tell_refusal.Statement.{statement}
+use Rattle.boundary.proofs.tell_refusal.Tie as tie
 
 enum-known-r : tie.Need-enum-known-r
 enum-known-r c = search needs

@@ -1,0 +1,36 @@
+-- The tables of all gates: the rows of the first g are laid. Assumes nothing.
+use mathlib.Core.Path.{_≡_, _∙_}
+use mathlib.Core.List.{List, [], _∷_}
+use Prim.Native.Nat.{ℕ, _+_, _*_, _-_, _≤_, _<_}
+use native.Mathlib.Numerals.{add-one}
+use native.Mathlib.Omega.{arith}
+use lib.ListN.{length, getD}
+use lib.Seq.{sets}
+use Rattle.network.specs.declared.Session.{Session}
+use Rattle.network.specs.DontCares.{sdc}
+use Rattle.network.specs.Flat.{currentNet}
+use Rattle.network.specs.Calls.{overwritten}
+use Rattle.netwrite.specs.Laid.{Laid}
+use Rattle.netwrite.proofs.Laws.{laid-append, laid-length, laid-start}
+use Rattle.dontcares.specs.Framed.{Tabled}
+use Rattle.boundary.specs.Boundary.{allTableWords}
+
+module _ (s : Session) (g : ℕ) {b b₁ : List ℕ} (l : Laid b 0 (allTableWords s g) b₁ (4 * g)) where
+  pub row-room : g < s .m → 4 * s .m ≤ length b → 4 * g + 4 ≤ length b₁
+  row-room h r = let n = laid-length l in omega arith
+
+  pub row-next : {cdcs fulls b₂ : List ℕ} {d : ℕ} → Tabled (currentNet s) cdcs fulls (s .n) (s .m) → g < s .m → d ≡ sdc (currentNet s) (s .n + g)
+      → b₂ ≡ sets b₁ (4 * g) (d ∷ getD cdcs g 0 ∷ getD fulls g 0 ∷ getD (s .open_tables) g 0 ∷ [])
+      → Laid b 0 (allTableWords s (g + 1)) b₂ (4 * (g + 1))
+  row-next t h e q =
+      let p : s .n + g - s .n ≡ g = omega arith in
+      rw add-one (laid-append l (record {
+        buffer = q ∙ rw (e, t .cdc-at g h, t .full-at g h, p);
+        behind = omega arith;
+      }))
+
+  pub rows-done : g ≡ s .m → 4 * s .m ≤ length b → b₁ ≡ overwritten (allTableWords s (s .m)) b
+  rows-done e r =
+      let k : Laid b 0 (allTableWords s (s .m)) b₁ (4 * s .m) = rw e at l in
+      let n = k .behind in
+      laid-start b (allTableWords s (s .m)) b₁ (4 * s .m) (omega arith) k .1

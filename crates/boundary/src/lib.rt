@@ -1,0 +1,73 @@
+// What the calls for programs in other languages share.
+ghost use mathlib.Core.Path.{_≡_};
+ghost use mathlib.Core.List.{[], _∷_};
+ghost use Prim.Native.Nat.{_*_, _≤_};
+ghost use lib.Dec.{ltb};
+ghost use lib.ListN.{length};
+ghost use Rattle.network.specs.declared.Answer.the-variants.{Done};
+ghost use Rattle.network.specs.declared.Refusal.the-variants.{BufferTooShort};
+ghost use Rattle.network.specs.Refusals.{numberOf, valuesOf};
+ghost use Rattle.network.specs.Tests.{refuseIf, first};
+ghost use Rattle.network.specs.State.{stateFault};
+ghost use Rattle.network.specs.Calls.{overwritten};
+ghost use Rattle.boundary.specs.Boundary.{allTableWords};
+use network::Answer;
+use network::Refusal;
+use network::Session;
+
+// Values at the start of `out`; the words behind them stay.
+pub fn give(values: &[u64], out: &mut [u64])
+    requires { ⌜ length (now values) ≤ length (now out) ⌝ }
+    ensures { λ _. ⌜ now (out .exit) ≡ overwritten (now (values .entry)) (now (out .entry)) ⌝ }
+{
+    packed::lay_words(out, 0, values);
+}
+
+// What a refusal names goes to the start of `out`; its number is given back.
+pub fn tell_refusal(r: Refusal, out: &mut [u64]) -> u64
+    requires { ⌜ length (valuesOf r) ≤ length (now out) ⌝ }
+    ensures { λ k. ⌜ (k ≡ numberOf r) × (now (out .exit) ≡ overwritten (valuesOf r) (now (out .entry))) ⌝ }
+{
+    if let Refusal::ClosedEntry(t) = r {
+        let named = [t as u64];
+        give(&named, out);
+        return 13;
+    }
+    if let Refusal::Harm { pattern, output } = r {
+        let named = [pattern as u64, output as u64];
+        give(&named, out);
+        return 14;
+    }
+    network::number_of(r)
+}
+
+// What was refused before, then 9 where fewer places are lent than needed.
+pub fn room(a: Answer, lent: usize, needed: usize) -> Answer
+    ensures { λ r. ⌜ r ≡ first (a ∷ refuseIf (ltb lent needed) BufferTooShort ∷ []) ⌝ }
+{
+    if let Answer::Refused(_) = a {
+        return a;
+    }
+    if lent < needed {
+        return Answer::Refused(Refusal::BufferTooShort);
+    }
+    Answer::Done
+}
+
+// The tables of each gate of a session, gate after gate.
+pub fn put_tables(s: Session, out: &mut [u64])
+    requires { ⌜ (stateFault s ≡ Done) × (4 * s .m ≤ length (now out)) ⌝ }
+    ensures { λ _. ⌜ now (out .exit) ≡ overwritten (allTableWords s (s .m)) (now (out .entry)) ⌝ }
+{
+    let m = s.m as usize;
+    let t = dontcares::all_tables(s);
+    let opens = s.open_tables;
+    let cdc = t.cdc;
+    let full = t.full;
+    let mut g: usize = 0;
+    while g < m {
+        let row = [dontcares::sdc(s, g), cdc[g], full[g], opens[g]];
+        packed::lay_words(out, 4 * g, &row);
+        g += 1;
+    }
+}
