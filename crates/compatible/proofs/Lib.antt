@@ -1,4 +1,4 @@
 pub mod Laws
 pub mod Stores
-pub mod Sets
+pub mod SetLaws
 pub mod Loaded

@@ -3,7 +3,7 @@ use mathlib.Core.Path.{_≡_}
 use mathlib.Core.List.{List}
 use Prim.Native.Nat.{ℕ, _+_, _*_, _≤_, _<_}
 use lib.Dec.{ltb}
-use lib.ListN.{getD}
+use lib.ListN.{length, getD}
 use Rattle.bits.specs.Bit.{bit}
 use Rattle.bits.specs.Cut.{Cut, wordCount}
 use Rattle.network.specs.Net.{Net}
@@ -31,3 +31,10 @@ pub record Tabled (N : Net) (cdcs fulls : List ℕ) (n m : ℕ) : Type 0 where
 pub record TabledFrom (N : Net) (cdcs fulls : List ℕ) (n a e : ℕ) : Type 0 where
   pub at : (g : ℕ) → a ≤ g → g < e → (getD cdcs g 0 ≡ cdc N (n + g)) × (getD fulls g 0 ≡ full N (n + g))
   pub past : (g : ℕ) → e ≤ g → (getD cdcs g 0 ≡ 0) × (getD fulls g 0 ≡ 0)
+
+-- the places from a on, up to i, are taken from rows, and those before a are as they were
+abbrev pub Taken : (rows other₀ other : List ℕ) (a i : ℕ) → Type 0
+Taken rows other₀ other a i =
+    (length other ≡ 800)
+    × ((q : ℕ) → a ≤ q → q < i → getD other q 0 ≡ getD rows q 0)
+    × ((q : ℕ) → q < a → getD other q 0 ≡ getD other₀ q 0)

@@ -7,12 +7,10 @@ ghost use lib.Bits.{bitOr, bitXor};
 ghost use lib.ListN.{length, getD};
 ghost use Rattle.bits.specs.Range.{any};
 ghost use Rattle.bits.specs.Bit.{bit, differs, tableOf};
-ghost use Rattle.network.specs.Net.{entry};
-ghost use Rattle.network.specs.DontCares.{odc};
 ghost use Rattle.network.specs.Flat.{netOf};
 ghost use Rattle.network.specs.Valid.{NetOk, OutputsOk};
-ghost use Rattle.simulate.specs.Simulated.{valueAt, Rows, Masked};
-ghost use Rattle.dontcares.specs.Framed.{Framed, OdcAt};
+ghost use Rattle.simulate.specs.Simulated.{valueAt, Rows};
+ghost use Rattle.dontcares.specs.Framed.{Framed, OdcAt, Taken};
 
 // How many words the patterns of n inputs take, and the places of each that are patterns.
 pub struct Frame {
@@ -68,30 +66,36 @@ fn observed(
     l
 }
 
-// The patterns at which inverting gate g changes an output.
+// The words of the signals from s to e, taken back from rows.
+fn restore(other: &mut [u64], rows: &[u64; 800], s: usize, e: usize)
+    requires { ⌜ (s ≤ e) × (e ≤ 50) × (length (now other) ≡ 800) ⌝ }
+    ensures { λ _. ⌜ Taken (now (rows .entry)) (now (other .entry)) (now (other .exit)) (16 * s) (16 * e) ⌝ }
+{
+    let end = 16 * e;
+    let mut i = 16 * s;
+    while i < end {
+        other[i] = rows[i];
+        i += 1;
+    }
+}
+
+// The places where some output differs. Then the signals from s to e get the words of rows back in other.
 fn observed_row(
-    n: usize,
-    m: usize,
-    arity: &[u8; 40],
-    fanins: &[u8; 240],
-    tables: &[u64; 40],
     p: usize,
     outputs: &[u8; 8],
-    masks: &[u64; 40],
     rows: &[u64; 800],
+    other: &mut [u64; 800],
     count: usize,
-    g: usize,
+    s: usize,
+    e: usize,
 ) -> [u64; 16]
-    requires { ⌜ NetOk (now arity) (now fanins) n m ⌝ }
-    requires { ⌜ OutputsOk (now outputs) p (n + m) ⌝ }
-    requires { ⌜ (g < m) × (count ≤ 16) × (length (now rows) ≡ 800) ⌝ }
-    requires { ⌜ Rows (now arity) (now fanins) (now tables) (now rows) n m count ⌝ }
-    requires { ⌜ Masked (now arity) (now fanins) (now masks) m ⌝ }
-    ensures { λ l. ⌜ ((ex : List ℕ) (w b : ℕ) → w < count → b < 64 → bit (getD l w 0) b ≡ not (odc (netOf (now (arity .entry)) (now (fanins .entry)) (now (tables .entry)) n m ex (now (outputs .entry)) p) (n + g) (w * 64 + b))) ⌝ }
+    requires { ⌜ OutputsOk (now outputs) p 50 ⌝ }
+    requires { ⌜ (count ≤ 16) × (s ≤ e) × (e ≤ 50) ⌝ }
+    ensures { λ l. ⌜ Taken (now (rows .entry)) (now (other .entry)) (now (other .exit)) (16 * s) (16 * e) × ((w b : ℕ) → w < count → b < 64 → bit (getD l w 0) b ≡ any p (λ i. differs (valueAt (now (rows .entry)) (getD (now (outputs .entry)) i 0) w b) (valueAt (now (other .entry)) (getD (now (outputs .entry)) i 0) w b))) ⌝ }
 {
-    let mut other = *rows;
-    simulate::invert(n, m, arity, fanins, *tables, masks, count, g, &mut other);
-    observed(p, outputs, rows, &other, count)
+    let seen = observed(p, outputs, rows, other, count);
+    restore(other, rows, s, e);
+    seen
 }
 
 // The live places that are not seen.
@@ -115,7 +119,8 @@ fn store_odc(odc: &mut [u64; 640], seen: &[u64; 16], live: u64, count: usize, g:
     }
 }
 
-// The words of the ODC of each gate from a to e, laid into odc.
+// The words of the ODC of each gate from a to e, laid into odc. Each gate is inverted in a copy of the rows, where only the rows from the
+// gate's on can change, so that only these are copied again.
 pub fn odc_words(
     n: usize,
     m: usize,
@@ -138,9 +143,11 @@ pub fn odc_words(
     ensures { λ _. ⌜ ((ex : List ℕ) (g : ℕ) → a ≤ g → g < e → OdcAt (netOf (now (arity .entry)) (now (fanins .entry)) (now (tables .entry)) n m ex (now (outs .entry)) p) (now (odc .exit)) n g count) ⌝ }
 {
     let masks = simulate::fanin_masks(n, m, arity, fanins);
+    let mut other = *rows;
     let mut g = a;
     while g < e {
-        let seen = observed_row(n, m, arity, fanins, tables, p, outs, &masks, rows, count, g);
+        simulate::invert(n, m, arity, fanins, *tables, &masks, count, g, &mut other);
+        let seen = observed_row(p, outs, rows, &mut other, count, n + g, n + m);
         store_odc(odc, &seen, live, count, g);
         g += 1;
     }

@@ -1,9 +1,9 @@
 -- `compatible::open_counts_of` meets its contract. Assumes nothing.
 use borrow.Author.Needs.{needs}
-use mathlib.Core.Path.{_∙_}
+use mathlib.Core.Path.{refl, _∙_}
 use Prim.Native.Nat.{_^_, _<_}
 use denote.Ref.{now}
-use Rattle.compatible.proofs.Sets.{opened, counted}
+use Rattle.compatible.proofs.SetLaws.{opened, counted}
 use Rattle.compatible.proofs.open_counts_of.Statement.{statement}
 use Rattle.compatible.proofs.open_counts_of.Tie as tie
 
@@ -14,7 +14,7 @@ mask-requires : tie.Need-mask-requires
 mask-requires c κs = c .size .ensures .places
 
 compatible-rows-requires : tie.Need-compatible-rows-requires
-compatible-rows-requires c κs = let z = c .before in (z .before .pre .0, (z .before .pre .1, z .size .ensures .words))
+compatible-rows-requires c κs = let z = c .before .before .before in (z .before .pre .0, (z .before .pre .1, (z .size .ensures .words, refl)))
 
 open-from-requires : tie.Need-open-from-requires
 open-from-requires c κs = let z = c .before .before .before .before .before .before in (z .before .pre .0, z .size .ensures .words)
@@ -34,18 +34,18 @@ returns : tie.Need-returns
 returns c =
     let f = c .before .before in
     let o = f .before .before in
-    let r = o .before .before .before .before .before in
-    let k = r .before in
+    let r = o .before .before .before in
+    let k = r .before .before .before in
     let z = k .before in
     let s = z .before in
     let a = s .args in
     let small : k .mask .result < 2 ^ 64 = search needs in (
       o .open-from .ensures
           ∙ opened (now (a .arity)) (now (a .fanins)) (now (a .tables)) (now (a .excluded)) (now (a .outs)) (a .n) (a .m) (a .p) (s .pre .0)
-          (r .compatible-rows .result .values) (r .compatible-rows .result .sets) (z .size .result .words) (z .size .result .places) (k .mask .result) (z .size .ensures) (k .mask .ensures .1) (r .compatible-rows .ensures),
+          _ _ (z .size .result .words) (z .size .result .places) (k .mask .result) (z .size .ensures) (k .mask .ensures .1) (r .compatible-rows .ensures),
       c .counts-of .ensures
           ∙ counted (now (a .arity)) (now (a .fanins)) (now (a .tables)) (now (a .excluded)) (now (a .outs)) (a .n) (a .m) (a .p) (s .pre .0)
-          (r .compatible-rows .result .values) (r .compatible-rows .result .sets) (z .size .result .words) (z .size .result .places) (k .mask .result) (z .size .ensures) (k .mask .ensures .1) (r .compatible-rows .ensures)
+          _ _ (z .size .result .words) (z .size .result .places) (k .mask .result) (z .size .ensures) (k .mask .ensures .1) (r .compatible-rows .ensures)
           small (f .sets-from .result) (f .sets-from .ensures),
     )
 

@@ -1,10 +1,11 @@
 -- `compatible::sets_of` meets its contract. Assumes nothing.
 use borrow.Author.Needs.{needs}
+use mathlib.Core.Path.{refl}
 use Prim.Native.Nat.{_^_, _<_}
 use native.Mathlib.Omega.{arith}
 use denote.Ref.{now}
 use Rattle.bits.proofs.Cuts.{cut-words}
-use Rattle.compatible.proofs.Sets.{set-words}
+use Rattle.compatible.proofs.SetLaws.{set-words}
 use Rattle.compatible.proofs.sets_of.Statement.{statement}
 use Rattle.compatible.proofs.sets_of.Tie as tie
 
@@ -15,18 +16,18 @@ mask-requires : tie.Need-mask-requires
 mask-requires c κs = c .size .ensures .places
 
 compatible-rows-requires : tie.Need-compatible-rows-requires
-compatible-rows-requires c κs = let z = c .before in (z .before .pre .0, (z .before .pre .1, z .size .ensures .words))
+compatible-rows-requires c κs = let z = c .before .before .before in (z .before .pre .0, (z .before .pre .1, (z .size .ensures .words, refl)))
 
 sets-from-requires : tie.Need-sets-from-requires
 sets-from-requires c κs =
-    let z = c .before .before .before .before in
+    let z = c .before .before .before .before .before in
     let ok = z .before .pre .0 in
     (ok .ins, ok .most, z .size .ensures .words)
 
 returns : tie.Need-returns
 returns c =
-    let r = c .before .before .before in
-    let k = r .before in
+    let r = c .before .before in
+    let k = r .before .before .before in
     let z = k .before in
     let s = z .before in
     let a = s .args in
@@ -34,7 +35,7 @@ returns c =
     let small : k .mask .result < 2 ^ 64 = search needs in
     λ g w hg hw.
     set-words (now (a .arity)) (now (a .fanins)) (now (a .tables)) (now (a .excluded)) (now (a .outs)) (a .n) (a .m) (a .p) (s .pre .0)
-    (r .compatible-rows .result .values) (r .compatible-rows .result .sets) (z .size .result .words) (z .size .result .places) (k .mask .result) (z .size .ensures) (k .mask .ensures .1) (r .compatible-rows .ensures)
+    _ _ (z .size .result .words) (z .size .result .places) (k .mask .result) (z .size .ensures) (k .mask .ensures .1) (r .compatible-rows .ensures)
     small (c .sets-from .result) (c .sets-from .ensures) g w hg (omega (arith, e))
 
 pub sets-of-spec : {M : Type 1} → statement M

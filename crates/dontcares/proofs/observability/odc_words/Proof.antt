@@ -1,23 +1,29 @@
 -- `dontcares::observability::odc_words` meets its contract. Assumes nothing.
 use borrow.Author.Needs.{needs}
-use mathlib.Core.Path.{_≡_}
+use mathlib.Core.Path.{_≡_, _∙_}
 use mathlib.Core.List.{List}
-use Prim.Native.Nat.{ℕ, _-_, _≤_, _<_}
+use Prim.Native.Nat.{ℕ, _+_, _-_, _*_, _≤_, _<_}
 use native.Mathlib.Omega.{arith}
 use lib.ListN.{length}
 use denote.Ref.{now}
-use Rattle.network.specs.Flat.{netOf}
+use Rattle.bits.specs.Range.{places}
+use Rattle.bits.specs.Bit.{bit}
+use Rattle.network.specs.Flat.{gatesOf, netOf}
+use Rattle.simulate.specs.Simulated.{Rows}
 use Rattle.dontcares.specs.Framed.{OdcAt}
+use Rattle.simulate.proofs.RowLaws.{words-long}
+use Rattle.dontcares.proofs.OdcLaws.{observed-odc, taken-back}
 use Rattle.dontcares.proofs.Words.{odc-more}
 use Rattle.dontcares.proofs.observability.odc_words.Statement.{statement}
 use Rattle.dontcares.proofs.observability.odc_words.Tie as tie
 
 abbrev Inv-loop : tie.InvT-loop
-Inv-loop n m arity fanins tables p outs rows count live a e odc₀ masks g₀ odc g =
+Inv-loop n m arity fanins tables p outs rows count live a e odc₀ masks other₀ g₀ odc other g =
     (length odc ≡ 640) × ((ex : List ℕ) (h : ℕ) → a ≤ h → h < g → OdcAt (netOf arity fanins tables n m ex outs p) odc n h count)
+    × (length other ≡ 800) × Rows arity fanins tables other n m count
 
 abbrev μ-loop : tie.MeasureT-loop
-μ-loop n m arity fanins tables p outs rows count live a e odc₀ masks g₀ odc g = e - g
+μ-loop n m arity fanins tables p outs rows count live a e odc₀ masks other₀ g₀ odc other g = e - g
 
 few : (s : tie.Start Inv-loop μ-loop) → (s .args .e ≤ 40) × (s .args .count ≤ 16)
 few s = (omega (arith, s .pre .0 .most), s .pre .1 .1 .1 .0 .cut .words)
@@ -26,23 +32,38 @@ fanin-masks-requires : tie.Need-fanin-masks-requires Inv-loop μ-loop
 fanin-masks-requires c κs = c .pre .0
 
 loop-holds : tie.Need-loop-holds Inv-loop μ-loop
-loop-holds c = (c .before .pre .1 .1 .1 .2, λ ex h f l. absurd (omega arith))
+loop-holds c =
+    let s = c .before .before in
+    (s .pre .1 .1 .1 .2, λ ex h f l. absurd (omega arith), s .pre .1 .1 .0 .0, s .pre .1 .1 .0 .1)
+
+invert-requires : tie.Need-invert-requires Inv-loop μ-loop
+invert-requires c κs =
+    let l = c .before .before .before .before in
+    let fm = l .before .before in
+    let s = fm .before in
+    (s .pre .0, ((omega arith, few s .1, l .loop .inv .2), (l .loop .inv .3, fm .fanin-masks .ensures)))
+
+add-observed-row : tie.Need-add-observed-row Inv-loop μ-loop
+add-observed-row c = let s = c .before .before .before .before .before .before .before .before .before in omega (arith, s .pre .0 .ins, s .pre .0 .most)
+
+add-observed-row-2 : tie.Need-add-observed-row-2 Inv-loop μ-loop
+add-observed-row-2 c = let s = c .before .before .before .before .before .before .before .before .before in omega (arith, s .pre .0 .ins, s .pre .0 .most)
 
 observed-row-requires : tie.Need-observed-row-requires Inv-loop μ-loop
 observed-row-requires c κs =
-    let fm = c .before .before .before in
-    let s = fm .before in
-    (s .pre .0, (s .pre .1 .0, ((omega arith, few s .1, s .pre .1 .1 .0 .0), (s .pre .1 .1 .0 .1, fm .fanin-masks .ensures))))
+    let s = c .before .before .before .before .before .before .before .before .before in
+    (record { most = s .pre .1 .0 .most; each = λ i h. omega (arith, s .pre .1 .0 .each i h, s .pre .0 .ins, s .pre .0 .most) }, (few s .1, omega arith, omega (arith, s .pre .0 .ins, s .pre .0 .most)))
 
 store-odc-requires : tie.Need-store-odc-requires Inv-loop μ-loop
 store-odc-requires c κs =
-    let l = c .before .before .before .before .before in
-    let s = l .before .before in
-    ((omega (arith, few s .0), few s .1), l .loop .inv .0)
+    let t = c .before .before .before .before .before .before .before .before in
+    let l = t .before in
+    let s = l .before .before .before in
+    ((omega (arith, few s .0, t .loop-test .taken), few s .1), l .loop .inv .0)
 
 add-g : tie.Need-add-g Inv-loop μ-loop
 add-g c =
-    omega (arith, few (c .before .before .before .before .before .before .before .before) .0)
+    omega (arith, few (c .before .before .before .before .before .before .before .before .before .before .before .before .before) .0)
 
 loop-less : tie.Need-loop-less Inv-loop μ-loop
 loop-less c = search needs
@@ -50,12 +71,28 @@ loop-less c = search needs
 loop-again : tie.Need-loop-again Inv-loop μ-loop
 loop-again c =
     let ob = c .before .before .before in
-    let l = ob .before .before .before in
-    let s = l .before .before in
-    let a = s .args in (
+    let iv = ob .before .before in
+    let l = iv .before .before .before .before .before in
+    let s = l .before .before .before in
+    let a = s .args in
+    let g = l .loop .g in
+    let plain = s .pre .1 .1 .0 .1 in (
       c .store-odc .ensures .0,
-      λ ex. odc-more (s .pre .1 .1 .1 .0) (netOf (now (a .arity)) (now (a .fanins)) (now (a .tables)) (a .n) (a .m) ex (now (a .outs)) (a .p)) (l .loop .odc) _ (ob .observed-row .result) (l .loop .g)
-          (c .store-odc .ensures .1) (ob .observed-row .ensures ex) (a .a) (c .store-odc .ensures .2) (l .loop .inv .1 ex),
+      λ ex.
+          odc-more (s .pre .1 .1 .1 .0) (netOf (now (a .arity)) (now (a .fanins)) (now (a .tables)) (a .n) (a .m) ex (now (a .outs)) (a .p)) (l .loop .odc) _ (ob .observed-row .result) g
+          (c .store-odc .ensures .1)
+          (λ w b hw hb. ob .observed-row .ensures .1 w b hw hb
+          ∙ observed-odc (now (a .outs)) (now (a .rows)) _ w b (now (a .arity)) (now (a .fanins)) (now (a .tables)) ex (a .n) (a .m) (a .p) g
+          (omega (arith, s .pre .0 .ins, s .pre .0 .most)) (s .pre .1 .0 .each) (plain w hw .each b hb) (iv .invert .ensures w b hw hb))
+          (a .a) (c .store-odc .ensures .2) (l .loop .inv .1 ex),
+      ob .observed-row .ensures .0 .0,
+      λ w hw. record {
+        long = words-long _ w;
+        each = λ b hb.
+            taken-back (now (a .rows)) _ _ (a .n + g) (a .n + a .m) w b (omega (arith, s .pre .0 .ins, s .pre .0 .most)) (omega (arith, few s .1)) (ob .observed-row .ensures .0)
+            (places (a .n) (bit (w * 64 + b))) (gatesOf (now (a .arity)) (now (a .fanins)) (now (a .tables)) (a .m))
+            (plain w hw .each b hb) (iv .invert .ensures w b hw hb);
+      },
     )
 
 returns : tie.Need-returns Inv-loop μ-loop
@@ -69,6 +106,9 @@ odc-words-spec =
     μ-loop
     fanin-masks-requires
     loop-holds
+    invert-requires
+    add-observed-row
+    add-observed-row-2
     observed-row-requires
     store-odc-requires
     add-g

@@ -1,4 +1,4 @@
--- `compatible::closed_in` meets its contract. Assumes nothing.
+-- `compatible::opens::closed_in` meets its contract. Assumes nothing.
 use borrow.Author.Needs.{needs}
 use mathlib.Core.Path.{sym, ap, _∙_}
 use mathlib.Core.Bool.{Bool, not, _&&_}
@@ -11,8 +11,8 @@ use Rattle.bits.proofs.BitLaws.{bit-and}
 use Rattle.simulate.specs.Simulated.{wordsAt}
 use Rattle.simulate.proofs.RowLaws.{words-at}
 use Rattle.compatible.proofs.Laws.{closed-in-is}
-use Rattle.compatible.proofs.closed_in.Statement.{statement}
-use Rattle.compatible.proofs.closed_in.Tie as tie
+use Rattle.compatible.proofs.opens.closed_in.Statement.{statement}
+use Rattle.compatible.proofs.opens.closed_in.Tie as tie
 
 gather-at-requires : tie.Need-gather-at-requires
 gather-at-requires c κs = search needs

@@ -1,4 +1,4 @@
--- `compatible::counts_of` meets its contract. Assumes nothing.
+-- `compatible::opens::counts_of` meets its contract. Assumes nothing.
 use borrow.Author.Needs.{needs}
 use mathlib.Core.Path.{_≡_, refl, subst}
 use Prim.Native.Nat.{ℕ, _-_, _*_, _≤_}
@@ -8,8 +8,8 @@ use denote.Ref.{now}
 use Rattle.bits.proofs.Ranges.{Changed, unchanged, changed-step}
 use Rattle.compatible.specs.Words.{onesIn}
 use Rattle.compatible.proofs.Stores.{per-gate}
-use Rattle.compatible.proofs.counts_of.Statement.{statement}
-use Rattle.compatible.proofs.counts_of.Tie as tie
+use Rattle.compatible.proofs.opens.counts_of.Statement.{statement}
+use Rattle.compatible.proofs.opens.counts_of.Tie as tie
 
 abbrev Inv-loop : tie.InvT-loop
 Inv-loop m most sets counts₀ g₀ counts g =

@@ -1,4 +1,4 @@
--- `compatible::intersected` meets its contract. Assumes nothing.
+-- `compatible::sets::intersected` meets its contract. Assumes nothing.
 use borrow.Author.Needs.{needs}
 use mathlib.Core.Path.{_≡_, ap, _∙_}
 use Prim.Native.Nat.{ℕ, _+_, _-_, _≤_, _<_}
@@ -14,32 +14,32 @@ use Rattle.simulate.specs.Simulated.{wordsAt}
 use Rattle.simulate.proofs.Laws.{later}
 use Rattle.compatible.specs.Words.{outputsLeave}
 use Rattle.compatible.proofs.Laws.{left, last, gate-step}
-use Rattle.compatible.proofs.intersected.Statement.{statement}
-use Rattle.compatible.proofs.intersected.Tie as tie
+use Rattle.compatible.proofs.sets.intersected.Statement.{statement}
+use Rattle.compatible.proofs.sets.intersected.Tie as tie
 
 abbrev Inv-loop : tie.InvT-loop
-Inv-loop n m arity fanins tables excluded p outs rows count edges hs₀ g₀ hs g =
+Inv-loop n m arity fanins tables excluded p outs rows count hs₀ edges g₀ hs g =
     (g ≤ m) × (length hs ≡ 800)
     × ((w b s : ℕ) → w < count → b < 64 → s < 50 → bit (getD (wordsAt hs w) s 0) b ≡ left arity fanins tables (wordsAt rows w) (outputsLeave outs p (bit (getD excluded w 0) b)) n m b g s)
 
 abbrev μ-loop : tie.MeasureT-loop
-μ-loop n m arity fanins tables excluded p outs rows count edges hs₀ g₀ hs g = g
+μ-loop n m arity fanins tables excluded p outs rows count hs₀ edges g₀ hs g = g
 
-room : (c : tie.In-loop Inv-loop μ-loop) → c .before .before .before .before .args .n + (c .before .loop .g - 1) < 50
-room c = let s = c .before .before .before .before in omega (arith, s .pre .0 .ins, s .pre .0 .most)
+room : (c : tie.In-loop Inv-loop μ-loop) → c .before .before .before .before .before .args .n + (c .before .loop .g - 1) < 50
+room c = let s = c .before .before .before .before .before in omega (arith, s .pre .0 .ins, s .pre .0 .most)
 
-gate-ok : (c : tie.In-loop Inv-loop μ-loop) → GateOk (now (c .before .before .before .before .args .arity)) (now (c .before .before .before .before .args .fanins)) (c .before .loop .g - 1) 50
-gate-ok c = later (omega (arith, room c)) (c .before .before .before .before .pre .0 .gate (c .before .loop .g - 1) (omega arith))
+gate-ok : (c : tie.In-loop Inv-loop μ-loop) → GateOk (now (c .before .before .before .before .before .args .arity)) (now (c .before .before .before .before .before .args .fanins)) (c .before .loop .g - 1) 50
+gate-ok c = later (omega (arith, room c)) (c .before .before .before .before .before .pre .0 .gate (c .before .loop .g - 1) (omega arith))
 
 edge-tables-requires : tie.Need-edge-tables-requires Inv-loop μ-loop
 edge-tables-requires c κs = (c .pre .0 .most, λ g h. c .pre .0 .gate g h .few)
 
 at-outputs-requires : tie.Need-at-outputs-requires Inv-loop μ-loop
-at-outputs-requires c κs = c .before .pre .1
+at-outputs-requires c κs = c .before .before .pre .1
 
 loop-holds : tie.Need-loop-holds Inv-loop μ-loop
 loop-holds c =
-    let a = c .before .before .args in
+    let a = c .before .before .before .args in
     (omega arith, c .at-outputs .ensures .0, λ w b x hw hb hx. last (now (a .arity)) (now (a .fanins)) (now (a .tables)) (wordsAt (now (a .rows)) w) (outputsLeave (now (a .outs)) (a .p) (bit (getD (now (a .excluded)) w 0) b)) (a .n) (a .m) b _ x (c .at-outputs .ensures .1 w b x hw hb hx))
 
 sub-g : tie.Need-sub-g Inv-loop μ-loop
@@ -54,7 +54,7 @@ row-of-requires c κs = room (c .before)
 through-gate-requires : tie.Need-through-gate-requires Inv-loop μ-loop
 through-gate-requires c κs =
     let t = c .before .before .before .before .before in
-    let s = t .before .before .before .before in
+    let s = t .before .before .before .before .before in
     ((omega (arith, s .pre .0 .most), s .pre .1 .1), (gate-ok t, t .before .loop .inv .1))
 
 loop-less : tie.Need-loop-less Inv-loop μ-loop
@@ -65,7 +65,7 @@ loop-again c =
     let r = c .before .before .before .before in
     let t = r .before .before in
     let l = t .before .loop in
-    let d = t .before .before .before in
+    let d = t .before .before .before .before in
     let a = d .before .args in
     let g = l .g - 1 in
     let e : l .g ≡ g + 1 = omega arith in (
@@ -81,7 +81,7 @@ loop-again c =
 
 returns : tie.Need-returns Inv-loop μ-loop
 returns c =
-    let a = c .before .before .before .before .args in
+    let a = c .before .before .before .before .before .args in
     let l = c .before .loop in
     let e : l .g ≡ 0 = omega arith in (
       l .inv .1,

@@ -1,4 +1,4 @@
--- `compatible::at_outputs` meets its contract. Assumes nothing.
+-- `compatible::sets::at_outputs` meets its contract. Assumes nothing.
 use borrow.Author.Needs.{needs}
 use mathlib.Core.Path.{_≡_, refl, ap, _∙_}
 use Prim.Native.Nat.{ℕ, _-_, _≤_, _<_}
@@ -11,27 +11,27 @@ use Rattle.simulate.specs.Simulated.{wordsAt}
 use Rattle.simulate.proofs.RowLaws.{words-long}
 use Rattle.compatible.specs.Words.{outputsLeave}
 use Rattle.compatible.proofs.Laws.{start-first, start-step}
-use Rattle.compatible.proofs.at_outputs.Statement.{statement}
-use Rattle.compatible.proofs.at_outputs.Tie as tie
+use Rattle.compatible.proofs.sets.at_outputs.Statement.{statement}
+use Rattle.compatible.proofs.sets.at_outputs.Tie as tie
 
 abbrev Inv-loop : tie.InvT-loop
-Inv-loop p outs excluded count none hs₀ i₀ hs i =
+Inv-loop p outs excluded count hs₀ none i₀ hs i =
     (i ≤ p) × (length hs ≡ 800)
     × ((w b s : ℕ) → w < count → b < 64 → s < 50 → bit (getD (wordsAt hs w) s 0) b ≡ outputsLeave outs i (bit (getD excluded w 0) b) s)
 
 abbrev μ-loop : tie.MeasureT-loop
-μ-loop p outs excluded count none hs₀ i₀ hs i = p - i
+μ-loop p outs excluded count hs₀ none i₀ hs i = p - i
 
 fits : (c : tie.After-place Inv-loop μ-loop) → c .place .result < 50
 fits c =
     let l = c .before .before .before in
-    omega (arith, c .place .ensures, l .before .pre .0 .each (l .loop .i) (omega arith))
+    omega (arith, c .place .ensures, l .before .before .pre .0 .each (l .loop .i) (omega arith))
 
 loop-holds : tie.Need-loop-holds Inv-loop μ-loop
-loop-holds c = (omega arith, refl, λ w b s hw hb hs. start-first (now (c .args .outs)) w b s (bit (getD (now (c .args .excluded)) w 0) b) (omega arith) hb hs)
+loop-holds c = (omega arith, refl, λ w b s hw hb hs. start-first (now (c .before .args .outs)) w b s (bit (getD (now (c .before .args .excluded)) w 0) b) (omega arith) hb hs)
 
 element-copy-out-place : tie.Need-element-copy-out-place Inv-loop μ-loop
-element-copy-out-place c = omega (arith, c .before .before .pre .0 .most)
+element-copy-out-place c = omega (arith, c .before .before .before .pre .0 .most)
 
 place-requires : tie.Need-place-requires Inv-loop μ-loop
 place-requires c κs = search needs
@@ -39,10 +39,10 @@ place-requires c κs = search needs
 intersect-requires : tie.Need-intersect-requires Inv-loop μ-loop
 intersect-requires c κs =
     let l = c .before .before .before .before .before in
-    ((fits (c .before .before), l .before .pre .1), l .loop .inv .1)
+    ((fits (c .before .before), l .before .before .pre .1), l .loop .inv .1)
 
 add-i : tie.Need-add-i Inv-loop μ-loop
-add-i c = omega (arith, c .before .before .before .before .before .before .before .pre .0 .most)
+add-i c = omega (arith, c .before .before .before .before .before .before .before .before .pre .0 .most)
 
 loop-less : tie.Need-loop-less Inv-loop μ-loop
 loop-less c = search needs
@@ -51,7 +51,7 @@ loop-again : tie.Need-loop-again Inv-loop μ-loop
 loop-again c =
     let pl = c .before .before .before in
     let l = pl .before .before .before .loop in
-    let a = pl .before .before .before .before .args in
+    let a = pl .before .before .before .before .before .args in
     let f = pl .place .result in
     let alone : (w : ℕ) → w < 16 → bitOr (getD (now (a .excluded)) w 0) (getD (replicate 16 0) w 0) ≡ getD (now (a .excluded)) w 0
     = λ w h. ap (bitOr (getD (now (a .excluded)) w 0)) (getD-replicate {A = ℕ} 16 w 0 0 h) ∙ or-zero-r (getD (now (a .excluded)) w 0) in (
@@ -63,7 +63,7 @@ loop-again c =
 
 returns : tie.Need-returns Inv-loop μ-loop
 returns c =
-    let a = c .before .before .args in
+    let a = c .before .before .before .args in
     let l = c .before .loop in
     let e : l .i ≡ a .p = omega arith in
     (l .inv .1, λ w b x hw hb hx. l .inv .2 w b x hw hb hx ∙ ap (λ (i : ℕ). outputsLeave (now (a .outs)) i (bit (getD (now (a .excluded)) w 0) b) x) e)

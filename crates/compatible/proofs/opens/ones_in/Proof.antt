@@ -1,4 +1,4 @@
--- `compatible::ones_in` meets its contract. Assumes nothing.
+-- `compatible::opens::ones_in` meets its contract. Assumes nothing.
 use borrow.Author.Needs.{needs}
 use mathlib.Core.Path.{_≡_, refl, ap, _∙_}
 use Prim.Native.Nat.{_-_, _≤_}
@@ -6,8 +6,8 @@ use native.Mathlib.Omega.{arith}
 use denote.Ref.{now}
 use Rattle.compatible.specs.Words.{onesIn}
 use Rattle.compatible.proofs.Stores.{ones-step, ones-le}
-use Rattle.compatible.proofs.ones_in.Statement.{statement}
-use Rattle.compatible.proofs.ones_in.Tie as tie
+use Rattle.compatible.proofs.opens.ones_in.Statement.{statement}
+use Rattle.compatible.proofs.opens.ones_in.Tie as tie
 
 abbrev Inv-loop : tie.InvT-loop
 Inv-loop sets at most sum₀ w₀ sum w = (w ≤ most) × (sum ≡ onesIn sets at w)

@@ -1,4 +1,4 @@
--- `compatible::intersect` meets its contract. Assumes nothing.
+-- `compatible::sets::intersect` meets its contract. Assumes nothing.
 use borrow.Author.Needs.{needs}
 use mathlib.Core.Path.{sym, ap, _∙_}
 use mathlib.Core.List.{List}
@@ -9,8 +9,8 @@ use lib.ListN.{getD}
 use denote.Ref.{now}
 use Rattle.simulate.specs.Simulated.{wordsAt}
 use Rattle.simulate.proofs.RowLaws.{words-at, Stored, store-first, store-step}
-use Rattle.compatible.proofs.intersect.Statement.{statement}
-use Rattle.compatible.proofs.intersect.Tie as tie
+use Rattle.compatible.proofs.sets.intersect.Statement.{statement}
+use Rattle.compatible.proofs.sets.intersect.Tie as tie
 
 abbrev Inv-loop : tie.InvT-loop
 Inv-loop hs₀ s x y count w₀ hs w = (w ≤ count) × Stored hs₀ hs (λ v. bitAnd (getD (wordsAt hs₀ v) s 0) (bitOr (getD x v 0) (getD y v 0))) s w

@@ -1,4 +1,4 @@
--- `compatible::open_from` meets its contract. Assumes nothing.
+-- `compatible::opens::open_from` meets its contract. Assumes nothing.
 use borrow.Author.Needs.{needs}
 use mathlib.Core.Path.{_≡_, refl, sym, ap, _∙_, subst}
 use Prim.Native.Nat.{ℕ, _-_, _^_, _≤_, _<_}
@@ -11,8 +11,8 @@ use Rattle.simulate.proofs.Laws.{later}
 use Rattle.compatible.specs.Words.{openBy}
 use Rattle.compatible.proofs.Laws.{closed-lt, open-by-is}
 use Rattle.compatible.proofs.Stores.{per-gate}
-use Rattle.compatible.proofs.open_from.Statement.{statement}
-use Rattle.compatible.proofs.open_from.Tie as tie
+use Rattle.compatible.proofs.opens.open_from.Statement.{statement}
+use Rattle.compatible.proofs.opens.open_from.Tie as tie
 
 abbrev Inv-loop : tie.InvT-loop
 Inv-loop n m arity fanins rows hs live count opens₀ g₀ opens g =

@@ -1,6 +1,6 @@
--- `compatible::compatible_rows` meets its contract. Assumes nothing.
+-- `compatible::sets::compatible_rows` meets its contract. Assumes nothing.
 use borrow.Author.Needs.{needs}
-use mathlib.Core.Path.{_≡_, refl, ap, _∙_}
+use mathlib.Core.Path.{_≡_, ap, _∙_}
 use mathlib.Core.Bool.{_&&_}
 use Prim.Native.Nat.{ℕ, _-_, _≤_, _<_}
 use native.Mathlib.Omega.{arith}
@@ -13,9 +13,9 @@ use Rattle.network.specs.Flat.{gatesOf}
 use Rattle.simulate.specs.Simulated.{wordsAt}
 use Rattle.simulate.proofs.RowLaws.{words-long}
 use Rattle.compatible.specs.Words.{outputsLeave}
-use Rattle.compatible.proofs.Sets.{zero-first, zero-step, compatible-is}
-use Rattle.compatible.proofs.compatible_rows.Statement.{statement}
-use Rattle.compatible.proofs.compatible_rows.Tie as tie
+use Rattle.compatible.proofs.SetLaws.{zero-first, zero-step, compatible-is}
+use Rattle.compatible.proofs.sets.compatible_rows.Statement.{statement}
+use Rattle.compatible.proofs.sets.compatible_rows.Tie as tie
 
 abbrev Inv-loop : tie.InvT-loop
 Inv-loop n m arity fanins tables excluded p outs count rows hs₀ empty i₀ hs i =
@@ -27,10 +27,10 @@ abbrev μ-loop : tie.MeasureT-loop
 μ-loop n m arity fanins tables excluded p outs count rows hs₀ empty i₀ hs i = n - i
 
 rows-requires : tie.Need-rows-requires Inv-loop μ-loop
-rows-requires c κs = let s = c .before in (s .pre .0, (s .pre .1 .1, refl))
+rows-requires c κs = let s = c .before in (s .pre .0, s .pre .1 .1)
 
 intersected-requires : tie.Need-intersected-requires Inv-loop μ-loop
-intersected-requires c κs = c .before .before .before .pre
+intersected-requires c κs = let s = c .before .before .before .before in (s .pre .0, (s .pre .1 .0, s .pre .1 .1 .0))
 
 loop-holds : tie.Need-loop-holds Inv-loop μ-loop
 loop-holds c = (
@@ -42,11 +42,11 @@ loop-holds c = (
 store-row-requires : tie.Need-store-row-requires Inv-loop μ-loop
 store-row-requires c κs =
     let l = c .before .before .before in
-    let s = l .before .before .before .before .before in
+    let s = l .before .before .before .before .before .before in
     (omega (arith, s .pre .0 .ins), l .loop .inv .1)
 
 add-i : tie.Need-add-i Inv-loop μ-loop
-add-i c = omega (arith, c .before .before .before .before .before .before .before .before .before .pre .0 .ins)
+add-i c = omega (arith, c .before .before .before .before .before .before .before .before .before .before .pre .0 .ins)
 
 loop-less : tie.Need-loop-less Inv-loop μ-loop
 loop-less c = search needs
@@ -54,7 +54,7 @@ loop-less c = search needs
 loop-again : tie.Need-loop-again Inv-loop μ-loop
 loop-again c =
     let l = c .before .before .before .before .loop in
-    let s = c .before .before .before .before .before .before .before .before .before in (
+    let s = c .before .before .before .before .before .before .before .before .before .before in (
       omega arith,
       c .store-row .ensures .0,
       λ w hw b hb x hx.
@@ -65,7 +65,7 @@ loop-again c =
 returns : tie.Need-returns Inv-loop μ-loop
 returns c =
     let l = c .before .loop in
-    let r = c .before .before .before .before in
+    let r = c .before .before .before .before .before in
     let s = r .before .before in
     let a = s .args in
     let e : l .i ≡ a .n = omega arith in

@@ -1,4 +1,4 @@
--- `compatible::through_gate` meets its contract. Assumes nothing.
+-- `compatible::sets::through_gate` meets its contract. Assumes nothing.
 use borrow.Author.Needs.{needs}
 use mathlib.Core.Path.{_≡_, refl, sym, ap, _∙_}
 use mathlib.Core.Bool.{_&&_}
@@ -16,8 +16,8 @@ use Rattle.simulate.specs.Simulated.{wordsAt}
 use Rattle.simulate.proofs.RowLaws.{words-long}
 use Rattle.compatible.specs.Words.{edge}
 use Rattle.compatible.proofs.Laws.{edge-step}
-use Rattle.compatible.proofs.through_gate.Statement.{statement}
-use Rattle.compatible.proofs.through_gate.Tie as tie
+use Rattle.compatible.proofs.sets.through_gate.Statement.{statement}
+use Rattle.compatible.proofs.sets.through_gate.Tie as tie
 
 abbrev Inv-loop : tie.InvT-loop
 Inv-loop arity fanins edges rows count own g hs₀ k free₀ r₀ hs free r =

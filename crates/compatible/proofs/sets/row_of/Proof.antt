@@ -1,4 +1,4 @@
--- `compatible::row_of` meets its contract. Assumes nothing.
+-- `compatible::sets::row_of` meets its contract. Assumes nothing.
 use borrow.Author.Needs.{needs}
 use mathlib.Core.Path.{_≡_, refl, sym}
 use Prim.Native.Nat.{ℕ, _+_, _-_, _*_, _≤_, _<_}
@@ -8,8 +8,8 @@ use denote.Ref.{now}
 use Rattle.bits.proofs.Ranges.{filled}
 use Rattle.simulate.specs.Simulated.{wordsAt}
 use Rattle.simulate.proofs.RowLaws.{words-at}
-use Rattle.compatible.proofs.row_of.Statement.{statement}
-use Rattle.compatible.proofs.row_of.Tie as tie
+use Rattle.compatible.proofs.sets.row_of.Statement.{statement}
+use Rattle.compatible.proofs.sets.row_of.Tie as tie
 
 abbrev Inv-loop : tie.InvT-loop
 Inv-loop rows s l₀ w₀ l w = (w ≤ 16) × (length l ≡ 16) × ((v : ℕ) → v < w → getD l v 0 ≡ getD (wordsAt rows v) s 0)

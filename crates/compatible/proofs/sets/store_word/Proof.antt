@@ -1,4 +1,4 @@
--- `compatible::store_word` meets its contract. Assumes nothing.
+-- `compatible::sets::store_word` meets its contract. Assumes nothing.
 use borrow.Author.Needs.{needs}
 use mathlib.Core.Path.{_≡_, refl, sym, ap, _∙_}
 use Prim.Native.Nat.{ℕ, _+_, _-_, _*_, _≤_, _<_}
@@ -10,8 +10,8 @@ use denote.Ref.{now}
 use Rattle.simulate.specs.Simulated.{wordsAt}
 use Rattle.simulate.proofs.RowLaws.{words-at}
 use Rattle.compatible.proofs.Stores.{stored}
-use Rattle.compatible.proofs.store_word.Statement.{statement}
-use Rattle.compatible.proofs.store_word.Tie as tie
+use Rattle.compatible.proofs.sets.store_word.Statement.{statement}
+use Rattle.compatible.proofs.sets.store_word.Tie as tie
 
 abbrev Inv-loop : tie.InvT-loop
 Inv-loop n m hs live w sets₀ g₀ sets g =

@@ -1,4 +1,4 @@
--- `compatible::sets_from` meets its contract. Assumes nothing.
+-- `compatible::sets::sets_from` meets its contract. Assumes nothing.
 use borrow.Author.Needs.{needs}
 use mathlib.Core.Path.{_≡_, refl}
 use Prim.Native.Nat.{ℕ, _+_, _-_, _*_, _≤_, _<_}
@@ -8,8 +8,8 @@ use lib.ListN.{length, getD}
 use denote.Ref.{now}
 use Rattle.simulate.specs.Simulated.{wordsAt}
 use Rattle.compatible.proofs.Stores.{sets-step}
-use Rattle.compatible.proofs.sets_from.Statement.{statement}
-use Rattle.compatible.proofs.sets_from.Tie as tie
+use Rattle.compatible.proofs.sets.sets_from.Statement.{statement}
+use Rattle.compatible.proofs.sets.sets_from.Tie as tie
 
 abbrev Inv-loop : tie.InvT-loop
 Inv-loop n m hs live count sets₀ w₀ sets w =

@@ -1,4 +1,4 @@
--- `compatible::closed_by` meets its contract. Assumes nothing.
+-- `compatible::opens::closed_by` meets its contract. Assumes nothing.
 use borrow.Author.Needs.{needs}
 use mathlib.Core.Path.{_≡_, ap, _∙_}
 use Prim.Native.Nat.{ℕ, _-_, _^_, _≤_}
@@ -6,8 +6,8 @@ use native.Mathlib.Omega.{arith}
 use denote.Ref.{now}
 use Rattle.compatible.specs.Words.{closedBy}
 use Rattle.compatible.proofs.Laws.{closed-first, closed-step, closed-all}
-use Rattle.compatible.proofs.closed_by.Statement.{statement}
-use Rattle.compatible.proofs.closed_by.Tie as tie
+use Rattle.compatible.proofs.opens.closed_by.Statement.{statement}
+use Rattle.compatible.proofs.opens.closed_by.Tie as tie
 
 abbrev Inv-loop : tie.InvT-loop
 Inv-loop n arity fanins rows hs live count g all acc₀ w₀ acc w = (w ≤ count) × (acc ≡ closedBy arity fanins rows hs n live w g)

@@ -1,0 +1,184 @@
+// Rules 5 and 6: the compatible sets of all signals, 64 patterns a word. Rows as in `simulate`: word w of signal s at place 16 * s + w.
+ghost use mathlib.Core.Path.{_≡_};
+ghost use mathlib.Core.Bool.{_&&_};
+ghost use mathlib.Core.List.{List};
+ghost use Prim.Native.Nat.{ℕ, _+_, _*_, _<_, _≤_};
+ghost use lib.Bits.{bitAnd, bitOr};
+ghost use lib.ListN.{length, getD, set};
+ghost use Rattle.bits.specs.Range.{every};
+ghost use Rattle.bits.specs.Bit.{bit, column};
+ghost use Rattle.network.specs.Net.{entry};
+ghost use Rattle.network.specs.Compatible.{compatibleFrom};
+ghost use Rattle.network.specs.Flat.{gateAt, gatesOf};
+ghost use Rattle.network.specs.Valid.{GateOk, NetOk, OutputsOk};
+ghost use Rattle.simulate.specs.Simulated.{wordsAt};
+ghost use Rattle.compatible.specs.Words.{outputsLeave, edge, CompatibleRows};
+
+// The words of signal s.
+fn row_of(rows: &[u64; 800], s: usize) -> [u64; 16]
+    requires { ⌜ s < 50 ⌝ }
+    ensures { λ l. ⌜ ((w : ℕ) → w < 16 → getD l w 0 ≡ getD (wordsAt (now (rows .entry)) w) s 0) ⌝ }
+{
+    let mut l = [0u64; 16];
+    let mut w = 0;
+    while w < 16 {
+        l[w] = rows[16 * s + w];
+        w += 1;
+    }
+    l
+}
+
+// The set of signal s, intersected with the union of two rows.
+fn intersect(hs: &mut [u64; 800], s: usize, x: &[u64; 16], y: &[u64; 16], count: usize)
+    requires { ⌜ (s < 50) × (count ≤ 16) ⌝ }
+    requires { ⌜ length (now hs) ≡ 800 ⌝ }
+    ensures { λ _. ⌜ (length (now (hs .exit)) ≡ 800) × ((w : ℕ) → w < count → wordsAt (now (hs .exit)) w ≡ set (wordsAt (now (hs .entry)) w) s (bitAnd (getD (wordsAt (now (hs .entry)) w) s 0) (bitOr (getD (now (x .entry)) w 0) (getD (now (y .entry)) w 0)))) ⌝ }
+{
+    let mut w = 0;
+    while w < count {
+        let v = hs[16 * s + w] & (x[w] | y[w]);
+        hs[16 * s + w] = v;
+        w += 1;
+    }
+}
+
+// What the outputs leave: all ones, and only the excluded patterns where an output names the signal.
+fn at_outputs(p: usize, outs: &[u8; 8], excluded: &[u64; 16], count: usize, hs: &mut [u64; 800])
+    requires { ⌜ OutputsOk (now outs) p 50 ⌝ }
+    requires { ⌜ count ≤ 16 ⌝ }
+    ensures { λ _. ⌜ (length (now (hs .exit)) ≡ 800) × ((w b s : ℕ) → w < count → b < 64 → s < 50 → bit (getD (wordsAt (now (hs .exit)) w) s 0) b ≡ outputsLeave (now (outs .entry)) p (bit (getD (now (excluded .entry)) w 0) b) s) ⌝ }
+{
+    let none = [0u64; 16];
+    *hs = [0xffff_ffff_ffff_ffffu64; 800];
+    let mut i = 0;
+    while i < p {
+        let s = network::place(outs[i]);
+        intersect(hs, s, excluded, &none, count);
+        i += 1;
+    }
+}
+
+// The edge sets of gate g, taken into the sets of its fan-ins: rows has the values, own the gate's own set.
+fn through_gate(
+    arity: &[u8; 40],
+    fanins: &[u8; 240],
+    edges: &[u64; 240],
+    rows: &[u64; 800],
+    count: usize,
+    own: &[u64; 16],
+    g: usize,
+    hs: &mut [u64; 800],
+)
+    requires { ⌜ (g < 40) × (count ≤ 16) ⌝ }
+    requires { ⌜ GateOk (now arity) (now fanins) g 50 ⌝ }
+    requires { ⌜ length (now hs) ≡ 800 ⌝ }
+    ensures { λ _. ⌜ (length (now (hs .exit)) ≡ 800) × ((ts : List ℕ) (w b s : ℕ) → w < count → b < 64 → bit (getD (wordsAt (now (hs .exit)) w) s 0) b ≡ (bit (getD (wordsAt (now (hs .entry)) w) s 0) b && every (getD (now (arity .entry)) g 0) (edge (now (fanins .entry)) (now (edges .entry)) g (getD (now (own .entry)) w 0) b (entry (column (wordsAt (now (rows .entry)) w) b) (gateAt (now (arity .entry)) (now (fanins .entry)) ts g)) s))) ⌝ }
+{
+    let k = network::place(arity[g]);
+    let mut free = [0u64; 16];
+    let mut r = 0;
+    while r < k {
+        simulate::lut_row(edges[6 * g + r], arity, fanins, rows, count, g, &mut free);
+        let f = simulate::fanin(fanins, g, r);
+        intersect(hs, f, own, &free, count);
+        r += 1;
+    }
+}
+
+// Rule 5 of all signals, from the last gate to the first: rows has their values.
+fn intersected(
+    n: usize,
+    m: usize,
+    arity: &[u8; 40],
+    fanins: &[u8; 240],
+    tables: &[u64; 40],
+    excluded: &[u64; 16],
+    p: usize,
+    outs: &[u8; 8],
+    rows: &[u64; 800],
+    count: usize,
+    hs: &mut [u64; 800],
+)
+    requires { ⌜ NetOk (now arity) (now fanins) n m ⌝ }
+    requires { ⌜ OutputsOk (now outs) p 50 ⌝ }
+    requires { ⌜ count ≤ 16 ⌝ }
+    ensures { λ _. ⌜ (length (now (hs .exit)) ≡ 800) × ((w b s : ℕ) → w < count → b < 64 → s < 50 → bit (getD (wordsAt (now (hs .exit)) w) s 0) b ≡ compatibleFrom (outputsLeave (now (outs .entry)) p (bit (getD (now (excluded .entry)) w 0) b)) (column (wordsAt (now (rows .entry)) w) b) n (gatesOf (now (arity .entry)) (now (fanins .entry)) (now (tables .entry)) m) s) ⌝ }
+{
+    let edges = edges::edge_tables(m, arity, tables);
+    at_outputs(p, outs, excluded, count, hs);
+    let mut g = m;
+    while 0 < g {
+        g -= 1;
+        let own = row_of(hs, n + g);
+        through_gate(arity, fanins, &edges, rows, count, &own, g, hs);
+    }
+}
+
+// The values and H of all signals, an input's empty.
+pub fn compatible_rows(
+    n: usize,
+    m: usize,
+    arity: &[u8; 40],
+    fanins: &[u8; 240],
+    tables: &[u64; 40],
+    excluded: &[u64; 16],
+    p: usize,
+    outs: &[u8; 8],
+    count: usize,
+    rows: &mut [u64; 800],
+    hs: &mut [u64; 800],
+)
+    requires { ⌜ NetOk (now arity) (now fanins) n m ⌝ }
+    requires { ⌜ OutputsOk (now outs) p 50 ⌝ }
+    requires { ⌜ (count ≤ 16) × (length (now rows) ≡ 800) ⌝ }
+    ensures { λ _. ⌜ CompatibleRows (now (arity .entry)) (now (fanins .entry)) (now (tables .entry)) (now (excluded .entry)) (now (outs .entry)) (now (rows .exit)) (now (hs .exit)) n m p count ⌝ }
+{
+    simulate::rows(n, m, arity, fanins, tables, count, rows);
+    intersected(
+        n,
+        m,
+        arity,
+        fanins,
+        tables,
+        excluded,
+        p,
+        outs,
+        rows,
+        count,
+        hs,
+    );
+    let empty = [0u64; 16];
+    let mut i = 0;
+    while i < n {
+        simulate::store_row(hs, i, &empty);
+        i += 1;
+    }
+}
+
+// H of each gate in word w, put in its place, spare bits zero.
+fn store_word(n: usize, m: usize, hs: &[u64; 800], live: u64, w: usize, sets: &mut [u64; 640])
+    requires { ⌜ (n ≤ 10) × (m ≤ 40) × (w < 16) ⌝ }
+    requires { ⌜ length (now sets) ≡ 640 ⌝ }
+    ensures { λ _. ⌜ (length (now (sets .exit)) ≡ 640) × ((g : ℕ) → g < m → getD (now (sets .exit)) (16 * g + w) 0 ≡ bitAnd live (getD (wordsAt (now (hs .entry)) w) (n + g) 0)) × ((g v : ℕ) → v < w → getD (now (sets .exit)) (16 * g + v) 0 ≡ getD (now (sets .entry)) (16 * g + v) 0) ⌝ }
+{
+    let mut g = 0;
+    while g < m {
+        let v = live & hs[16 * (n + g) + w];
+        sets[16 * g + w] = v;
+        g += 1;
+    }
+}
+
+// H of each gate, sixteen words a gate, by the rows of H.
+pub fn sets_from(n: usize, m: usize, hs: &[u64; 800], live: u64, count: usize) -> [u64; 640]
+    requires { ⌜ (n ≤ 10) × (m ≤ 40) × (count ≤ 16) ⌝ }
+    ensures { λ l. ⌜ ((g w : ℕ) → g < m → w < count → getD l (16 * g + w) 0 ≡ bitAnd live (getD (wordsAt (now (hs .entry)) w) (n + g) 0)) ⌝ }
+{
+    let mut sets = [0u64; 640];
+    let mut w = 0;
+    while w < count {
+        store_word(n, m, hs, live, w, &mut sets);
+        w += 1;
+    }
+    sets
+}
