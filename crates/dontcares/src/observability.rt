@@ -67,7 +67,7 @@ fn observed(
 }
 
 // The words of the signals from s to e, taken back from rows.
-fn restore(other: &mut [u64], rows: &[u64; 800], s: usize, e: usize)
+fn restore(other: &mut [u64; 800], rows: &[u64; 800], s: usize, e: usize)
     requires { ⌜ (s ≤ e) × (e ≤ 50) × (length (now other) ≡ 800) ⌝ }
     ensures { λ _. ⌜ Taken (now (rows .entry)) (now (other .entry)) (now (other .exit)) (16 * s) (16 * e) ⌝ }
 {
@@ -77,25 +77,6 @@ fn restore(other: &mut [u64], rows: &[u64; 800], s: usize, e: usize)
         other[i] = rows[i];
         i += 1;
     }
-}
-
-// The places where some output differs. Then the signals from s to e get the words of rows back in other.
-fn observed_row(
-    p: usize,
-    outputs: &[u8; 8],
-    rows: &[u64; 800],
-    other: &mut [u64; 800],
-    count: usize,
-    s: usize,
-    e: usize,
-) -> [u64; 16]
-    requires { ⌜ OutputsOk (now outputs) p 50 ⌝ }
-    requires { ⌜ (count ≤ 16) × (s ≤ e) × (e ≤ 50) ⌝ }
-    ensures { λ l. ⌜ Taken (now (rows .entry)) (now (other .entry)) (now (other .exit)) (16 * s) (16 * e) × ((w b : ℕ) → w < count → b < 64 → bit (getD l w 0) b ≡ any p (λ i. differs (valueAt (now (rows .entry)) (getD (now (outputs .entry)) i 0) w b) (valueAt (now (other .entry)) (getD (now (outputs .entry)) i 0) w b))) ⌝ }
-{
-    let seen = observed(p, outputs, rows, other, count);
-    restore(other, rows, s, e);
-    seen
 }
 
 // The live places that are not seen.
@@ -147,8 +128,9 @@ pub fn odc_words(
     let mut g = a;
     while g < e {
         simulate::invert(n, m, arity, fanins, *tables, &masks, count, g, &mut other);
-        let seen = observed_row(p, outs, rows, &mut other, count, n + g, n + m);
+        let seen = observed(p, outs, rows, &other, count);
         store_odc(odc, &seen, live, count, g);
+        restore(&mut other, rows, n + g, n + m);
         g += 1;
     }
 }

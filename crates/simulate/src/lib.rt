@@ -378,7 +378,7 @@ pub fn invert(
     requires { ⌜ (g < m) × (count ≤ 16) × (length (now rows) ≡ 800) ⌝ }
     requires { ⌜ Rows (now arity) (now fanins) tables (now rows) n m count ⌝ }
     requires { ⌜ Masked (now arity) (now fanins) (now masks) m ⌝ }
-    ensures { λ _. ⌜ ((w b : ℕ) → w < count → b < 64 → take (n + m) (column (wordsAt (now (rows .exit)) w) b) ≡ runInverted (n + g) (places n (bit (w * 64 + b))) (gatesOf (now (arity .entry)) (now (fanins .entry)) tables m)) ⌝ }
+    ensures { λ _. ⌜ (length (now (rows .exit)) ≡ 800) × ((w b : ℕ) → w < count → b < 64 → take (n + m) (column (wordsAt (now (rows .exit)) w) b) ≡ runInverted (n + g) (places n (bit (w * 64 + b))) (gatesOf (now (arity .entry)) (now (fanins .entry)) tables m)) ⌝ }
 {
     let mut others = tables;
     others[g] = bits::invert(tables[g]);

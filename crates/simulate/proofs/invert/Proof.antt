@@ -37,17 +37,19 @@ update-from-requires c κs =
     (s .pre .0, ((omega arith, omega arith, s .pre .1 .0 .2), (s .pre .1 .1 .0, (s .pre .1 .1 .1, λ q h. sym (getD-set-other (a .t5) (a .g) q _ 0 (λ e. absurd (omega arith)))))))
 
 returns : tie.Need-returns
-returns c w b hw hb =
+returns c =
     let i = c .before .before .before .before in
     let s = i .before in
     let a = s .args in
     let ok = s .pre .0 .gate (a .g) (omega arith) in
-    let few : 2 ^ getD (now (a .arity)) (a .g) 0 ≤ 16 = pow-mono {j = 4} (ok .few) in
-    c .update-from .ensures .1 w hw .each b hb
-    ∙ complemented (now (a .arity)) (now (a .fanins)) (a .t5) _ (a .n) (w * 64 + b) (a .g)
-    (λ q d. getD-set-other (a .t5) (a .g) q _ 0 d)
-    (λ e l. ap (λ (t : ℕ). bit t e) (getD-set-same (a .t5) (a .g) _ 0 (omega (arith, s .pre .0 .most, long s))) ∙ i .invert .ensures e (omega arith))
-    (a .m)
+    let few : 2 ^ getD (now (a .arity)) (a .g) 0 ≤ 16 = pow-mono {j = 4} (ok .few) in (
+      c .update-from .ensures .0,
+      λ w b hw hb. c .update-from .ensures .1 w hw .each b hb
+          ∙ complemented (now (a .arity)) (now (a .fanins)) (a .t5) _ (a .n) (w * 64 + b) (a .g)
+          (λ q d. getD-set-other (a .t5) (a .g) q _ 0 d)
+          (λ e l. ap (λ (t : ℕ). bit t e) (getD-set-same (a .t5) (a .g) _ 0 (omega (arith, s .pre .0 .most, long s))) ∙ i .invert .ensures e (omega arith))
+          (a .m),
+    )
 
 pub invert-spec : {M : Type 1} → statement M
 invert-spec =

@@ -43,16 +43,10 @@ invert-requires c κs =
     let s = fm .before in
     (s .pre .0, ((omega arith, few s .1, l .loop .inv .2), (l .loop .inv .3, fm .fanin-masks .ensures)))
 
-add-observed-row : tie.Need-add-observed-row Inv-loop μ-loop
-add-observed-row c = let s = c .before .before .before .before .before .before .before .before .before in omega (arith, s .pre .0 .ins, s .pre .0 .most)
-
-add-observed-row-2 : tie.Need-add-observed-row-2 Inv-loop μ-loop
-add-observed-row-2 c = let s = c .before .before .before .before .before .before .before .before .before in omega (arith, s .pre .0 .ins, s .pre .0 .most)
-
-observed-row-requires : tie.Need-observed-row-requires Inv-loop μ-loop
-observed-row-requires c κs =
+observed-requires : tie.Need-observed-requires Inv-loop μ-loop
+observed-requires c κs =
     let s = c .before .before .before .before .before .before .before .before .before in
-    (record { most = s .pre .1 .0 .most; each = λ i h. omega (arith, s .pre .1 .0 .each i h, s .pre .0 .ins, s .pre .0 .most) }, (few s .1, omega arith, omega (arith, s .pre .0 .ins, s .pre .0 .most)))
+    (record { most = s .pre .1 .0 .most; each = λ i h. omega (arith, s .pre .1 .0 .each i h, s .pre .0 .ins, s .pre .0 .most) }, few s .1)
 
 store-odc-requires : tie.Need-store-odc-requires Inv-loop μ-loop
 store-odc-requires c κs =
@@ -61,37 +55,49 @@ store-odc-requires c κs =
     let s = l .before .before .before in
     ((omega (arith, few s .0, t .loop-test .taken), few s .1), l .loop .inv .0)
 
+add-restore : tie.Need-add-restore Inv-loop μ-loop
+add-restore c = let s = c .before .before .before .before .before .before .before .before .before .before .before .before .before .before in omega (arith, s .pre .0 .ins, s .pre .0 .most)
+
+add-restore-2 : tie.Need-add-restore-2 Inv-loop μ-loop
+add-restore-2 c = let s = c .before .before .before .before .before .before .before .before .before .before .before .before .before .before in omega (arith, s .pre .0 .ins, s .pre .0 .most)
+
+restore-requires : tie.Need-restore-requires Inv-loop μ-loop
+restore-requires c κs =
+    let iv = c .before .before .before .before .before .before in
+    let s = iv .before .before .before .before .before .before .before .before in
+    (omega arith, omega (arith, s .pre .0 .ins, s .pre .0 .most), iv .invert .ensures .0)
+
 add-g : tie.Need-add-g Inv-loop μ-loop
-add-g c =
-    omega (arith, few (c .before .before .before .before .before .before .before .before .before .before .before .before .before) .0)
+add-g c = omega (arith, few (c .before .before .before .before .before .before .before .before .before .before .before .before .before .before .before) .0)
 
 loop-less : tie.Need-loop-less Inv-loop μ-loop
 loop-less c = search needs
 
 loop-again : tie.Need-loop-again Inv-loop μ-loop
 loop-again c =
-    let ob = c .before .before .before in
+    let so = c .before .before in
+    let ob = so .before .before .before in
     let iv = ob .before .before in
     let l = iv .before .before .before .before .before in
     let s = l .before .before .before in
     let a = s .args in
     let g = l .loop .g in
     let plain = s .pre .1 .1 .0 .1 in (
-      c .store-odc .ensures .0,
+      so .store-odc .ensures .0,
       λ ex.
-          odc-more (s .pre .1 .1 .1 .0) (netOf (now (a .arity)) (now (a .fanins)) (now (a .tables)) (a .n) (a .m) ex (now (a .outs)) (a .p)) (l .loop .odc) _ (ob .observed-row .result) g
-          (c .store-odc .ensures .1)
-          (λ w b hw hb. ob .observed-row .ensures .1 w b hw hb
+          odc-more (s .pre .1 .1 .1 .0) (netOf (now (a .arity)) (now (a .fanins)) (now (a .tables)) (a .n) (a .m) ex (now (a .outs)) (a .p)) (l .loop .odc) _ (ob .observed .result) g
+          (so .store-odc .ensures .1)
+          (λ w b hw hb. ob .observed .ensures w b hw hb
           ∙ observed-odc (now (a .outs)) (now (a .rows)) _ w b (now (a .arity)) (now (a .fanins)) (now (a .tables)) ex (a .n) (a .m) (a .p) g
-          (omega (arith, s .pre .0 .ins, s .pre .0 .most)) (s .pre .1 .0 .each) (plain w hw .each b hb) (iv .invert .ensures w b hw hb))
-          (a .a) (c .store-odc .ensures .2) (l .loop .inv .1 ex),
-      ob .observed-row .ensures .0 .0,
+          (omega (arith, s .pre .0 .ins, s .pre .0 .most)) (s .pre .1 .0 .each) (plain w hw .each b hb) (iv .invert .ensures .1 w b hw hb))
+          (a .a) (so .store-odc .ensures .2) (l .loop .inv .1 ex),
+      c .restore .ensures .0,
       λ w hw. record {
         long = words-long _ w;
         each = λ b hb.
-            taken-back (now (a .rows)) _ _ (a .n + g) (a .n + a .m) w b (omega (arith, s .pre .0 .ins, s .pre .0 .most)) (omega (arith, few s .1)) (ob .observed-row .ensures .0)
+            taken-back (now (a .rows)) _ _ (a .n + g) (a .n + a .m) w b (omega (arith, s .pre .0 .ins, s .pre .0 .most)) (omega (arith, few s .1)) (c .restore .ensures)
             (places (a .n) (bit (w * 64 + b))) (gatesOf (now (a .arity)) (now (a .fanins)) (now (a .tables)) (a .m))
-            (plain w hw .each b hb) (iv .invert .ensures w b hw hb);
+            (plain w hw .each b hb) (iv .invert .ensures .1 w b hw hb);
       },
     )
 
@@ -107,10 +113,11 @@ odc-words-spec =
     fanin-masks-requires
     loop-holds
     invert-requires
-    add-observed-row
-    add-observed-row-2
-    observed-row-requires
+    observed-requires
     store-odc-requires
+    add-restore
+    add-restore-2
+    restore-requires
     add-g
     loop-less
     loop-again

@@ -1,6 +1,6 @@
 -- `dontcares::observability::restore` meets its contract. Assumes nothing.
 use borrow.Author.Needs.{needs}
-use mathlib.Core.Path.{_≡_, refl, sym, _∙_}
+use mathlib.Core.Path.{refl}
 use Prim.Native.Nat.{_-_, _*_, _≤_}
 use native.Mathlib.Omega.{arith}
 use denote.Ref.{now}
@@ -33,8 +33,8 @@ element-copy-out-other c = search needs
 mul-other-2 : tie.Need-mul-other-2 Inv-loop μ-loop
 mul-other-2 c = search needs
 
-slice-write-other : tie.Need-slice-write-other Inv-loop μ-loop
-slice-write-other c = let l = c .before .before in omega (arith, l .loop .inv .1 .0)
+element-write-other : tie.Need-element-write-other Inv-loop μ-loop
+element-write-other c = search needs
 
 add-i : tie.Need-add-i Inv-loop μ-loop
 add-i c = search needs
@@ -47,9 +47,6 @@ loop-again c =
     let l = c .before .before in
     let a = l .before .args in
     (omega arith, taken-step (now (a .rows)) (now (a .other)) (l .loop .other) (16 * a .s) (l .loop .i) (l .loop .inv .0) (omega arith) (l .loop .inv .1))
-
-same-length : tie.Need-same-length Inv-loop μ-loop
-same-length c = c .before .loop .inv .1 .0 ∙ sym (c .before .before .pre .2)
 
 returns : tie.Need-returns Inv-loop μ-loop
 returns c =
@@ -68,9 +65,8 @@ restore-spec =
     mul-other
     element-copy-out-other
     mul-other-2
-    slice-write-other
+    element-write-other
     add-i
     loop-less
     loop-again
-    same-length
     returns)
