@@ -111,7 +111,7 @@ pub fn order(report: &mut Report) {
 
 /// For each refusal 1 to 8 a file damaged for it, a file with two such damages, and one with any.
 pub fn damaged(report: &mut Report, seed: u64, cases: usize) {
-    for i in 0..cases {
+    report.cases(cases, |report, i| {
         let mut rng = Random::new(seed, report.name(), i);
         let file = random::small_network(&mut rng);
         let number = i as u64 % 8 + 1;
@@ -123,7 +123,7 @@ pub fn damaged(report: &mut Report, seed: u64, cases: usize) {
         }
         let bad = damage::any(&mut rng, &file);
         compare_file(report, &Case::new(i, &bad));
-    }
+    });
     report.require_answers(1..=8);
 }
 
@@ -139,7 +139,7 @@ fn twice(rng: &mut Random, file: &[u8]) -> Option<Vec<u8>> {
 
 /// Bytes that begin as a file with one gate may; the others are any, or so small that they are signals.
 pub fn random_bytes(report: &mut Report, seed: u64, cases: usize) {
-    for i in 0..cases {
+    report.cases(cases, |report, i| {
         let mut rng = Random::new(seed, report.name(), i);
         let (length, most) = (rng.within(0, 40), *rng.pick(&[4, 256]));
         let mut bytes: Vec<u8> = (0..length).map(|_| (rng.next() % most) as u8).collect();
@@ -150,6 +150,6 @@ pub fn random_bytes(report: &mut Report, seed: u64, cases: usize) {
             *byte = *known;
         }
         compare_file(report, &Case::new(i, &bytes));
-    }
+    });
     report.require_answers(1..=6);
 }

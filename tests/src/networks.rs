@@ -7,13 +7,15 @@ use crate::reference::{self, Network, State};
 use crate::report::{Case, Report};
 
 pub fn compare(report: &mut Report, seed: u64, cases: usize) {
-    let mut met = Vec::new();
-    for i in 0..cases {
+    report.cases(cases, |report, i| {
         let file = random::network(&mut Random::new(seed, report.name(), i), i);
-        met.push(reference::load(&file).expect("a random network loads"));
+        see(
+            report,
+            &reference::load(&file).expect("a random network loads"),
+        );
         compare_file(report, &Case::new(i, &file));
-    }
-    bounds(report, &met);
+    });
+    bounds(report);
 }
 
 fn compare_file(report: &mut Report, case: &Case) {
@@ -35,31 +37,37 @@ fn compare_file(report: &mut Report, case: &Case) {
     }
 }
 
-/// Each number of inputs, outputs and fan-ins, one gate and forty, and each kind of excluded set have to have been met.
-fn bounds(report: &mut Report, met: &[Network]) {
-    let mut require = |what: &str, holds: &dyn Fn(&Network) -> bool| {
-        report.require(what, met.iter().any(holds));
-    };
-    (1..=10).for_each(|c| require(&format!("n {c}"), &|s| s.n == c));
-    [1, 40]
+/// Notes the network's counts and the kind of its excluded set.
+fn see(report: &mut Report, s: &Network) {
+    let m = s.m();
+    report.see(format!("n {}", s.n));
+    report.see(format!("m {m}"));
+    report.see(format!("p {}", s.outputs.len()));
+    s.fanins
         .iter()
-        .for_each(|&c| require(&format!("m {c}"), &|s| s.m() == c));
-    (1..=8).for_each(|c| require(&format!("p {c}"), &|s| s.outputs.len() == c));
-    (1..=4).for_each(|c| require(&format!("k {c}"), &|s| has_arity(s, c)));
-    require("n 10 and m 40", &|s| s.n == 10 && s.m() == 40);
-    let quarters = |s: &Network| excluded_count(s) * 4 / s.patterns();
-    require("an empty excluded set", &|s| excluded_count(s) == 0);
-    require("a sparse excluded set", &|s| {
-        excluded_count(s) > 0 && quarters(s) == 0
-    });
-    require("a dense excluded set", &|s| quarters(s) == 3);
-    require("a full excluded set", &|s| quarters(s) == 4);
+        .for_each(|f| report.see(format!("k {}", f.len())));
+    if s.n == 10 && m == 40 {
+        report.see("n 10 and m 40");
+    }
+    let excluded = s.excluded.iter().filter(|&&one| one).count();
+    match (excluded, excluded * 4 / s.patterns()) {
+        (0, _) => report.see("an empty excluded set"),
+        (_, 0) => report.see("a sparse excluded set"),
+        (_, 3) => report.see("a dense excluded set"),
+        (_, 4) => report.see("a full excluded set"),
+        _ => {}
+    }
 }
 
-fn has_arity(s: &Network, k: usize) -> bool {
-    s.fanins.iter().any(|f| f.len() == k)
-}
-
-fn excluded_count(s: &Network) -> usize {
-    s.excluded.iter().filter(|&&one| one).count()
+/// Each number of inputs, outputs and fan-ins, one gate and forty, and each kind of excluded set have to have been met.
+fn bounds(report: &mut Report) {
+    let all = |name: &'static str, most| (1..=most).map(move |c| format!("{name} {c}"));
+    let counts = all("n", 10).chain(all("p", 8)).chain(all("k", 4));
+    counts.for_each(|what| report.require_seen(&what));
+    for what in ["m 1", "m 40", "n 10 and m 40"] {
+        report.require_seen(what);
+    }
+    for kind in ["an empty", "a sparse", "a dense", "a full"] {
+        report.require_seen(&format!("{kind} excluded set"));
+    }
 }

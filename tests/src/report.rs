@@ -2,7 +2,9 @@
 
 use crate::call::{Call, Lent, Way};
 use crate::reference;
-use std::collections::BTreeMap;
+use std::collections::{BTreeMap, BTreeSet};
+use std::sync::atomic::{AtomicUsize, Ordering};
+use std::thread;
 use std::time::Instant;
 
 #[derive(Default)]
@@ -12,16 +14,21 @@ pub struct Report {
     pub failed: u64,
     smallest: Option<(usize, String)>,
     met: BTreeMap<u64, u64>,
+    seen: BTreeSet<String>,
 }
 
 impl Report {
+    fn of(part: &'static str) -> Report {
+        Report {
+            part,
+            ..Report::default()
+        }
+    }
+
     /// Runs one part, and prints its counts, its answers and its smallest failed case.
     pub fn part(&mut self, name: &'static str, compare: impl FnOnce(&mut Report)) {
         let began = Instant::now();
-        let mut part = Report {
-            part: name,
-            ..Report::default()
-        };
+        let mut part = Report::of(name);
         compare(&mut part);
         let seconds = began.elapsed().as_secs_f64();
         let (passed, failed) = (part.passed, part.failed);
@@ -35,6 +42,36 @@ impl Report {
         }
         self.passed += part.passed;
         self.failed += part.failed;
+    }
+
+    /// The cases below `count`, each taken by whichever of as many threads as there are processors is free.
+    pub fn cases(&mut self, count: usize, compare: impl Fn(&mut Report, usize) + Sync) {
+        let (name, next) = (self.part, AtomicUsize::new(0));
+        let share = || {
+            let mut report = Report::of(name);
+            let take = || Some(next.fetch_add(1, Ordering::Relaxed)).filter(|&i| i < count);
+            std::iter::from_fn(take).for_each(|i| compare(&mut report, i));
+            report
+        };
+        let processors = thread::available_parallelism().map_or(1, usize::from);
+        thread::scope(|scope| {
+            let threads: Vec<_> = (0..processors).map(|_| scope.spawn(share)).collect();
+            for thread in threads {
+                self.add(thread.join().expect("its cases are compared"));
+            }
+        });
+    }
+
+    fn add(&mut self, other: Report) {
+        self.passed += other.passed;
+        self.failed += other.failed;
+        if let Some((size, text)) = other.smallest.filter(|(size, _)| self.smaller(*size)) {
+            self.smallest = Some((size, text));
+        }
+        for (answer, count) in other.met {
+            *self.met.entry(answer).or_default() += count;
+        }
+        self.seen.extend(other.seen);
     }
 
     pub fn name(&self) -> &'static str {
@@ -62,7 +99,17 @@ impl Report {
         *self.met.entry(answer).or_default() += 1;
     }
 
-    /// What has to have been met in this part, so that it cannot pass unseen.
+    /// Notes that a case was of this kind.
+    pub fn see(&mut self, what: impl Into<String>) {
+        self.seen.insert(what.into());
+    }
+
+    /// Some case has to have been of this kind, so that it cannot pass unseen.
+    pub fn require_seen(&mut self, what: &str) {
+        self.require(what, self.seen.contains(what));
+    }
+
+    /// What has to have been met in this part.
     pub fn require(&mut self, what: &str, met: bool) {
         self.count(0, (!met).then(|| format!("{what} was never met")));
     }

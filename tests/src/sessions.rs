@@ -11,11 +11,11 @@ use crate::users::calls;
 const WAYS: [Way; 2] = [RAW, BINDING];
 
 pub fn compare(report: &mut Report, seed: u64, cases: usize) {
-    for i in 0..cases {
+    report.cases(cases, |report, i| {
         let mut rng = Random::new(seed, report.name(), i);
         let case = Case::new(i, &random::network(&mut rng, i));
         compare_list(report, rng, case);
-    }
+    });
     report.require_answers([0, 11, 12, 13, 14]);
 }
 

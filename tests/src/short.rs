@@ -12,7 +12,7 @@ use crate::states::calls;
 pub fn compare(report: &mut Report, seed: u64, cases: usize) {
     let words = [tusqirma::raw::session_words(), tusqirma::SESSION_WORDS];
     report.require("427 words", words == [WORDS; 2]);
-    for i in 0..cases {
+    report.cases(cases, |report, i| {
         let mut rng = Random::new(seed, report.name(), i);
         let every = i % 4 > 0;
         let file = match every {
@@ -27,7 +27,7 @@ pub fn compare(report: &mut Report, seed: u64, cases: usize) {
             every,
         };
         short.compare();
-    }
+    });
     report.require_answers((0..=9).chain(11..=14));
 }
 

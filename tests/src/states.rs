@@ -10,28 +10,28 @@ use crate::users::User;
 
 pub fn compare(report: &mut Report, seed: u64, cases: usize) {
     let kinds = ALTERATIONS.len();
-    let mut met = vec![false; kinds];
-    for i in 0..cases {
+    report.cases(cases, |report, i| {
         let mut rng = Random::new(seed, report.name(), i);
         let file = match rng.within(0, 7) {
             0 => random::network(&mut rng, i / kinds),
             _ => random::small_network(&mut rng),
         };
-        let altered = compare_altered(report, rng, &ALTERATIONS[i % kinds], Case::new(i, &file));
-        met[i % kinds] |= altered;
-    }
-    let each = ALTERATIONS.iter().zip(met);
-    each.for_each(|(alteration, met)| report.require(alteration.what, met));
+        compare_altered(report, rng, &ALTERATIONS[i % kinds], Case::new(i, &file));
+    });
+    ALTERATIONS
+        .iter()
+        .for_each(|how| report.require_seen(how.what));
     report.require_answers([0, 9, 10, 11, 12, 13, 14]);
 }
 
-/// The calls on the case's session, altered; false where it has no place for that.
-fn compare_altered(report: &mut Report, mut rng: Random, how: &Alteration, case: Case) -> bool {
+/// The calls on the case's session, altered, where it has a place for that.
+fn compare_altered(report: &mut Report, mut rng: Random, how: &Alteration, case: Case) {
     let state = State::fresh(load(&case.file).expect("a random network loads"));
     let mut words = state.words();
     if !(how.alter)(&mut rng, &state, &mut words) {
-        return false;
+        return;
     }
+    report.see(how.what);
     let changed = changes(&state.words(), &words);
     let case = case.after(format!("{}: {changed}", how.what));
     for call in calls(&mut rng, &state) {
@@ -46,7 +46,6 @@ fn compare_altered(report: &mut Report, mut rng: Random, how: &Alteration, case:
         let text = || format!("{case}{call:?}: {answers:?}");
         report.count(case.size(), wrong.then(text));
     }
-    true
 }
 
 /// Which words were altered, and to what.
