@@ -5,7 +5,7 @@ ghost use Prim.Native.Nat.{ℕ, _+_, _-_, _*_, _^_, _<_, _≤_};
 ghost use lib.Dec.{ltb};
 ghost use lib.ListN.{getD};
 ghost use mathlib.Core.Bool.{true, false, not, _&&_, Bool·beq};
-ghost use Rattle.bits.specs.Cut.{Cut};
+ghost use Rattle.bits.specs.Cut.{Cut, Framed};
 ghost use Rattle.bits.specs.Range.{num, any, count};
 ghost use Rattle.bits.specs.Bit.{bit, choose, number, gives, Split};
 
@@ -140,13 +140,13 @@ pub fn mask(n: u32) -> u64
     }
 }
 
-pub struct Extent {
-    pub words: usize,
-    pub places: u32,
+// How many words the patterns of n inputs take, and how many places of each.
+struct Extent {
+    words: usize,
+    places: u32,
 }
 
-// How many words the patterns of n inputs take, and how many places of each.
-pub fn size(n: usize) -> Extent
+fn size(n: usize) -> Extent
     requires { ⌜ n ≤ 10 ⌝ }
     ensures { λ r. ⌜ Cut n (r .words) (r .places) ⌝ }
 {
@@ -160,6 +160,24 @@ pub fn size(n: usize) -> Extent
             words: 1 << (n - 6),
             places: 64,
         }
+    }
+}
+
+// How many words the patterns of n inputs take, and the places of each that are patterns.
+pub struct Frame {
+    pub count: usize,
+    pub live: u64,
+}
+
+pub fn frame_of(n: usize) -> Frame
+    requires { ⌜ n ≤ 10 ⌝ }
+    ensures { λ r. ⌜ Framed n (r .count) (r .live) ⌝ }
+{
+    let z = size(n);
+    let live = mask(z.places);
+    Frame {
+        count: z.words,
+        live: live,
     }
 }
 

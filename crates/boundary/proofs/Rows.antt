@@ -12,7 +12,7 @@ use Rattle.network.specs.Flat.{currentNet}
 use Rattle.network.specs.Calls.{overwritten}
 use Rattle.netwrite.specs.Laid.{Laid}
 use Rattle.netwrite.proofs.Laws.{laid-append, laid-length, laid-start}
-use Rattle.dontcares.specs.Framed.{Tabled}
+use Rattle.dontcares.specs.Tabled.{Tabled}
 use Rattle.boundary.specs.Boundary.{allTableWords}
 
 module _ (s : Session) (g : ℕ) {b b₁ : List ℕ} (l : Laid b 0 (allTableWords s g) b₁ (4 * g)) where

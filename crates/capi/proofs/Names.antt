@@ -6,10 +6,10 @@ use mathlib.Core.List.{List, [], _∷_}
 use Prim.Native.Nat.{ℕ, _≤_}
 use native.Mathlib.Omega.{arith}
 use lib.Dec.{ltb}
-use lib.ListN.{length, getD}
+use lib.ListN.{length, take}
 use Rattle.bits.specs.declared.Found.{Found}
 use Rattle.bits.specs.declared.Found.the-variants.{At, Nothing}
-use Rattle.bits.specs.Range.{every, smallest}
+use Rattle.bits.specs.Range.{smallest}
 use Rattle.bits.proofs.Logic.{clash}
 use Rattle.network.specs.declared.Session.{Session}
 use Rattle.network.specs.declared.Refusal.{Refusal}
@@ -24,7 +24,7 @@ use Rattle.network.specs.State.{stateFault, asInvalid, stateTest}
 use Rattle.network.specs.Load.{loadDone, onward, readOf, opened, loadOf}
 use Rattle.network.specs.Calls.{gateTest, fits, tableTest, alters, entryFound, closedTest, harmTest, heldClosed, exchangeTests, exchangeAnswer, verdictOf, roomTest}
 use Rattle.engine.proofs.Outcomes.{Among, harm-only, file, read-among}
-use Rattle.packed.specs.Packed.{sessionWords, byteWords, sessionIn, bytesTest, wordsTest}
+use Rattle.packed.specs.Packed.{sessionWords, byteWords, sessionIn, allBytes, bytesTest, wordsTest}
 use Rattle.boundary.specs.Boundary.{valuesFor}
 use Rattle.boundary.proofs.Silent.{quiet}
 
@@ -76,7 +76,7 @@ module _ (k : ℕ) where
   unfolding wordsTest bytesTest
   names-words ws =
       names-first (roomTest sessionWords ws ∷ bytesTest ws ∷ stateTest (sessionIn ws) ∷ [])
-      (names-room sessionWords ws, (names-if (not (every byteWords (λ i. ltb (getD ws i 0) 256))) InvalidState (omega arith), (names-state (sessionIn ws), tt)))
+      (names-room sessionWords ws, (names-if (not (allBytes (take byteWords ws))) InvalidState (omega arith), (names-state (sessionIn ws), tt)))
 
 -- the numbers of a file's refusals are below 9
 pub names-load : (bytes : List ℕ) → Names 0 (loadOf bytes .answer)

@@ -1,140 +1,24 @@
-// Rules 5 to 7: compatible sets and open tables of the loaded network.
+// Rules 5 and 6: compatible sets of the loaded network, and how many patterns each has.
 ghost use mathlib.Core.Path.{_≡_};
-ghost use Prim.Native.Nat.{ℕ, _+_, _*_, _<_};
-ghost use lib.ListN.{getD};
+ghost use Prim.Native.Nat.{ℕ, _+_, _*_, _<_, _≤_};
+ghost use lib.Bits.{bitAnd};
+ghost use lib.ListN.{length, getD};
 ghost use Rattle.bits.specs.Cut.{wordCount};
-ghost use Rattle.network.specs.Compatible.{compatible, compatibleCount, openTable, openTables};
-ghost use Rattle.network.specs.Flat.{netOf, loadedNet, wordOf};
-ghost use Rattle.network.specs.Valid.{NetOk, OutputsOk};
+ghost use Rattle.network.specs.Compatible.{compatible, compatibleCount};
+ghost use Rattle.network.specs.Flat.{loadedNet, wordOf};
 ghost use Rattle.network.specs.State.{stateFault};
-ghost use Rattle.compatible.specs.Words.{perGate};
+ghost use Rattle.simulate.specs.Simulated.{wordsAt};
+ghost use Rattle.compatible.specs.Words.{LoadedRows, perGate, onesIn};
+use bits::Frame;
 use network::Answer;
 use network::Session;
 
-mod opens;
 mod sets;
 
-// The open tables of all gates.
-fn open_of(
-    n: usize,
-    m: usize,
-    arity: &[u8; 40],
-    fanins: &[u8; 240],
-    tables: &[u64; 40],
-    excluded: &[u64; 16],
-    p: usize,
-    outs: &[u8; 8],
-) -> [u64; 40]
-    requires { ⌜ NetOk (now arity) (now fanins) n m ⌝ }
-    requires { ⌜ OutputsOk (now outs) p 50 ⌝ }
-    ensures { λ r. ⌜ r ≡ perGate m (λ g. openTable (netOf (now (arity .entry)) (now (fanins .entry)) (now (tables .entry)) n m (now (excluded .entry)) (now (outs .entry)) p) (n + g)) ⌝ }
-{
-    let z = bits::size(n);
-    let live = bits::mask(z.places);
-    let count = z.words;
-    let mut rows = [0u64; 800];
-    let mut hs = [0u64; 800];
-    sets::compatible_rows(
-        n,
-        m,
-        arity,
-        fanins,
-        tables,
-        excluded,
-        p,
-        outs,
-        count,
-        &mut rows,
-        &mut hs,
-    );
-    opens::open_from(n, m, arity, fanins, &rows, &hs, live, count)
-}
-
-// H of each gate, sixteen words a gate.
-fn sets_of(
-    n: usize,
-    m: usize,
-    arity: &[u8; 40],
-    fanins: &[u8; 240],
-    tables: &[u64; 40],
-    excluded: &[u64; 16],
-    p: usize,
-    outs: &[u8; 8],
-) -> [u64; 640]
-    requires { ⌜ NetOk (now arity) (now fanins) n m ⌝ }
-    requires { ⌜ OutputsOk (now outs) p 50 ⌝ }
-    ensures { λ l. ⌜ ((g w : ℕ) → g < m → w < wordCount n → getD l (16 * g + w) 0 ≡ wordOf n (compatible (netOf (now (arity .entry)) (now (fanins .entry)) (now (tables .entry)) n m (now (excluded .entry)) (now (outs .entry)) p) (n + g)) w) ⌝ }
-{
-    let z = bits::size(n);
-    let live = bits::mask(z.places);
-    let count = z.words;
-    let mut rows = [0u64; 800];
-    let mut hs = [0u64; 800];
-    sets::compatible_rows(
-        n,
-        m,
-        arity,
-        fanins,
-        tables,
-        excluded,
-        p,
-        outs,
-        count,
-        &mut rows,
-        &mut hs,
-    );
-    sets::sets_from(n, m, &hs, live, count)
-}
-
-// The open table of each gate, and how many patterns its compatible set has.
-pub struct OpenCounts {
-    pub opens: [u64; 40],
-    pub counts: [u64; 40],
-}
-
-// Both from the same rows.
-fn open_counts_of(
-    n: usize,
-    m: usize,
-    arity: &[u8; 40],
-    fanins: &[u8; 240],
-    tables: &[u64; 40],
-    excluded: &[u64; 16],
-    p: usize,
-    outs: &[u8; 8],
-) -> OpenCounts
-    requires { ⌜ NetOk (now arity) (now fanins) n m ⌝ }
-    requires { ⌜ OutputsOk (now outs) p 50 ⌝ }
-    ensures { λ r. ⌜ (r .opens ≡ perGate m (λ g. openTable (netOf (now (arity .entry)) (now (fanins .entry)) (now (tables .entry)) n m (now (excluded .entry)) (now (outs .entry)) p) (n + g))) × (r .counts ≡ perGate m (λ g. compatibleCount (netOf (now (arity .entry)) (now (fanins .entry)) (now (tables .entry)) n m (now (excluded .entry)) (now (outs .entry)) p) (n + g))) ⌝ }
-{
-    let z = bits::size(n);
-    let live = bits::mask(z.places);
-    let count = z.words;
-    let mut rows = [0u64; 800];
-    let mut hs = [0u64; 800];
-    sets::compatible_rows(
-        n,
-        m,
-        arity,
-        fanins,
-        tables,
-        excluded,
-        p,
-        outs,
-        count,
-        &mut rows,
-        &mut hs,
-    );
-    let opens = opens::open_from(n, m, arity, fanins, &rows, &hs, live, count);
-    let sets = sets::sets_from(n, m, &hs, live, count);
-    let counts = opens::counts_of(m, count, &sets);
-    OpenCounts { opens, counts }
-}
-
-// The compatible sets of the loaded network: word w of gate g at place 16 * g + w.
-pub fn compatible_sets(s: Session) -> [u64; 640]
-    requires { ⌜ stateFault s ≡ Answer.Done ⌝ }
-    ensures { λ l. ⌜ ((g w : ℕ) → g < s .m → w < wordCount (s .n) → getD l (16 * g + w) 0 ≡ wordOf (s .n) (compatible (loadedNet s) (s .n + g)) w) ⌝ }
+// The rows of the values and of H of all signals of the loaded network, and their frame.
+pub fn loaded_rows(s: Session, rows: &mut [u64; 800], hs: &mut [u64; 800]) -> Frame
+    requires { ⌜ (stateFault s ≡ Answer.Done) × (length (now rows) ≡ 800) ⌝ }
+    ensures { λ f. ⌜ LoadedRows s (now (rows .exit)) (now (hs .exit)) (f .count) (f .live) ⌝ }
 {
     let n = network::place(s.n);
     let m = network::place(s.m);
@@ -144,23 +28,93 @@ pub fn compatible_sets(s: Session) -> [u64; 640]
     let loaded = s.loaded;
     let excluded = s.excluded;
     let outs = s.outputs;
-    sets_of(n, m, &arity, &fanins, &loaded, &excluded, p, &outs)
+    let f = bits::frame_of(n);
+    let count = f.count;
+    sets::compatible_rows(
+        n,
+        m,
+        &arity,
+        &fanins,
+        &loaded,
+        &excluded,
+        p,
+        &outs,
+        count,
+        rows,
+        hs,
+    );
+    f
 }
 
-// The open tables of the loaded network.
-pub fn open_tables(s: Session) -> [u64; 40]
-    requires { ⌜ stateFault s ≡ Answer.Done ⌝ }
-    ensures { λ r. ⌜ r ≡ openTables (loadedNet s) ⌝ }
+// H of each gate in word w, put in its place, spare bits zero.
+fn store_word(n: usize, m: usize, hs: &[u64; 800], live: u64, w: usize, sets: &mut [u64; 640])
+    requires { ⌜ (n ≤ 10) × (m ≤ 40) × (w < 16) ⌝ }
+    requires { ⌜ length (now sets) ≡ 640 ⌝ }
+    ensures { λ _. ⌜ (length (now (sets .exit)) ≡ 640) × ((g : ℕ) → g < m → getD (now (sets .exit)) (16 * g + w) 0 ≡ bitAnd live (getD (wordsAt (now (hs .entry)) w) (n + g) 0)) × ((g v : ℕ) → v < w → getD (now (sets .exit)) (16 * g + v) 0 ≡ getD (now (sets .entry)) (16 * g + v) 0) ⌝ }
 {
+    let mut g = 0;
+    while g < m {
+        let v = live & hs[16 * (n + g) + w];
+        sets[16 * g + w] = v;
+        g += 1;
+    }
+}
+
+// H of each gate, sixteen words a gate, by the rows of H.
+pub fn sets_from(n: usize, m: usize, hs: &[u64; 800], live: u64, count: usize) -> [u64; 640]
+    requires { ⌜ (n ≤ 10) × (m ≤ 40) × (count ≤ 16) ⌝ }
+    ensures { λ l. ⌜ ((g w : ℕ) → g < m → w < count → getD l (16 * g + w) 0 ≡ bitAnd live (getD (wordsAt (now (hs .entry)) w) (n + g) 0)) ⌝ }
+{
+    let mut sets = [0u64; 640];
+    let mut w = 0;
+    while w < count {
+        store_word(n, m, hs, live, w, &mut sets);
+        w += 1;
+    }
+    sets
+}
+
+// The ones of as many words as most says, from place at on.
+fn ones_in(sets: &[u64; 640], at: usize, most: usize) -> u64
+    requires { ⌜ (at + 16 ≤ 640) × (most ≤ 16) ⌝ }
+    ensures { λ r. ⌜ r ≡ onesIn (now (sets .entry)) at most ⌝ }
+{
+    let mut sum: u64 = 0;
+    let mut w = 0;
+    while w < most {
+        let c = bits::ones(sets[at + w]);
+        sum += c as u64;
+        w += 1;
+    }
+    sum
+}
+
+// The ones of each gate's first words, as many as most says.
+pub fn counts_of(m: usize, most: usize, sets: &[u64; 640]) -> [u64; 40]
+    requires { ⌜ (m ≤ 40) × (most ≤ 16) ⌝ }
+    ensures { λ r. ⌜ r ≡ perGate m (λ g. onesIn (now (sets .entry)) (16 * g) most) ⌝ }
+{
+    let mut counts = [0u64; 40];
+    let mut g = 0;
+    while g < m {
+        let c = ones_in(sets, 16 * g, most);
+        counts[g] = c;
+        g += 1;
+    }
+    counts
+}
+
+// The compatible sets of the loaded network: word w of gate g at place 16 * g + w.
+pub fn compatible_sets(s: Session) -> [u64; 640]
+    requires { ⌜ stateFault s ≡ Answer.Done ⌝ }
+    ensures { λ l. ⌜ ((g w : ℕ) → g < s .m → w < wordCount (s .n) → getD l (16 * g + w) 0 ≡ wordOf (s .n) (compatible (loadedNet s) (s .n + g)) w) ⌝ }
+{
+    let mut rows = [0u64; 800];
+    let mut hs = [0u64; 800];
+    let f = loaded_rows(s, &mut rows, &mut hs);
     let n = network::place(s.n);
     let m = network::place(s.m);
-    let p = network::place(s.p);
-    let arity = s.arity;
-    let fanins = s.fanins;
-    let tables = s.loaded;
-    let excluded = s.excluded;
-    let outs = s.outputs;
-    open_of(n, m, &arity, &fanins, &tables, &excluded, p, &outs)
+    sets_from(n, m, &hs, f.live, f.count)
 }
 
 // How many patterns the compatible set of each gate has: the ones of each word, added.
@@ -169,24 +123,7 @@ pub fn counts(s: Session) -> [u64; 40]
     ensures { λ r. ⌜ r ≡ perGate (s .m) (λ g. compatibleCount (loadedNet s) (s .n + g)) ⌝ }
 {
     let m = network::place(s.m);
-    let z = bits::size(network::place(s.n));
-    let most = z.words;
+    let f = bits::frame_of(network::place(s.n));
     let sets = compatible_sets(s);
-    opens::counts_of(m, most, &sets)
-}
-
-// The open tables of the loaded network and the counts, both from one computation of the compatible sets.
-pub fn open_and_counts(s: Session) -> OpenCounts
-    requires { ⌜ stateFault s ≡ Answer.Done ⌝ }
-    ensures { λ r. ⌜ r ≡ record { opens = openTables (loadedNet s); counts = perGate (s .m) (λ g. compatibleCount (loadedNet s) (s .n + g)) } ⌝ }
-{
-    let n = network::place(s.n);
-    let m = network::place(s.m);
-    let p = network::place(s.p);
-    let arity = s.arity;
-    let fanins = s.fanins;
-    let loaded = s.loaded;
-    let excluded = s.excluded;
-    let outs = s.outputs;
-    open_counts_of(n, m, &arity, &fanins, &loaded, &excluded, p, &outs)
+    counts_of(m, f.count, &sets)
 }

@@ -154,31 +154,3 @@ pub fn compatible_rows(
         i += 1;
     }
 }
-
-// H of each gate in word w, put in its place, spare bits zero.
-fn store_word(n: usize, m: usize, hs: &[u64; 800], live: u64, w: usize, sets: &mut [u64; 640])
-    requires { ⌜ (n ≤ 10) × (m ≤ 40) × (w < 16) ⌝ }
-    requires { ⌜ length (now sets) ≡ 640 ⌝ }
-    ensures { λ _. ⌜ (length (now (sets .exit)) ≡ 640) × ((g : ℕ) → g < m → getD (now (sets .exit)) (16 * g + w) 0 ≡ bitAnd live (getD (wordsAt (now (hs .entry)) w) (n + g) 0)) × ((g v : ℕ) → v < w → getD (now (sets .exit)) (16 * g + v) 0 ≡ getD (now (sets .entry)) (16 * g + v) 0) ⌝ }
-{
-    let mut g = 0;
-    while g < m {
-        let v = live & hs[16 * (n + g) + w];
-        sets[16 * g + w] = v;
-        g += 1;
-    }
-}
-
-// H of each gate, sixteen words a gate, by the rows of H.
-pub fn sets_from(n: usize, m: usize, hs: &[u64; 800], live: u64, count: usize) -> [u64; 640]
-    requires { ⌜ (n ≤ 10) × (m ≤ 40) × (count ≤ 16) ⌝ }
-    ensures { λ l. ⌜ ((g w : ℕ) → g < m → w < count → getD l (16 * g + w) 0 ≡ bitAnd live (getD (wordsAt (now (hs .entry)) w) (n + g) 0)) ⌝ }
-{
-    let mut sets = [0u64; 640];
-    let mut w = 0;
-    while w < count {
-        store_word(n, m, hs, live, w, &mut sets);
-        w += 1;
-    }
-    sets
-}

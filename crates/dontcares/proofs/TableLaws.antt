@@ -1,4 +1,4 @@
--- CDC, full table and SDC of a gate by words. Assumes nothing.
+-- CDC and full table of a gate by words. Assumes nothing.
 use mathlib.Core.Path.{_≡_, refl, sym, ap, ap₂, _∙_}
 use mathlib.Core.Bool.{Bool, true, false, not, _&&_, _||_}
 use mathlib.Core.List.{List}
@@ -7,23 +7,25 @@ use native.Mathlib.Decide.{ℕ-discrete}
 use native.Mathlib.Numerals.{add-one}
 use native.Mathlib.Omega.{arith}
 use lib.Bits.{bitOr}
-use lib.Dec.{eqb}
+use lib.Dec.{eqb, ltb}
 use lib.ListN.{length, getD, set, replicate}
 use lib.Seq.{getD-take, getD-set-same, getD-set-other}
 use Rattle.bits.specs.Range.{_⇒_, every, any}
 use Rattle.bits.specs.Bit.{bit, tableOf, column, entryAt}
-use Rattle.bits.proofs.Ranges.{and-assoc, and-true, any-ext, every-ext, table-lt, table-ext}
+use Rattle.bits.specs.Cut.{Framed}
+use Rattle.bits.proofs.Ranges.{and-assoc, and-true, any-ext, every-ext, bit-table, table-lt, table-ext}
 use Rattle.bits.proofs.Cuts.{every-not, table-or, table-none}
 use Rattle.network.specs.Net.{Gate, Net, arity, gate, entry, values, entryOf, occurs, excluded}
 use Rattle.network.specs.DontCares.{odc, cdc, full}
-use Rattle.network.specs.Flat.{gateAt, netOf}
+use Rattle.network.specs.Flat.{gateAt, netOf, wordOf}
 use Rattle.network.specs.Valid.{NetOk}
 use Rattle.network.proofs.Laws.{arity-at, entry-words, entry-ext}
 use Rattle.network.proofs.Earlier.{gate-is}
 use Rattle.entries.proofs.By.{by-rest}
 use Rattle.simulate.specs.Simulated.{wordsAt, Rows}
-use Rattle.dontcares.specs.Framed.{Framed, OdcAt, Tabled, TabledFrom}
-use Rattle.dontcares.proofs.Words.{set-bit}
+use Rattle.observability.specs.Odc.{OdcAt}
+use Rattle.observability.proofs.Words.{live-at}
+use Rattle.dontcares.specs.Tabled.{Tabled, TabledFrom}
 
 -- ## Entries, word after word
 
@@ -100,6 +102,13 @@ module _ (ks fs ts ex outs : List ℕ) (n m p g : ℕ) (hg : g < m) where
     unfolding excluded netOf
     excluded-at w b hb = ap₂ (λ (i j : ℕ). bit (getD ex i 0) j) (omega arith) (omega arith)
 
+    -- a bit of a word of a set
+    set-bit : (p : ℕ → Bool) (w x b : ℕ) → w < count → b < 64 → x ≡ wordOf n p w → bit x b ≡ (bit live b && p (w * 64 + b))
+    unfolding wordOf
+    set-bit p w x b hw hb e =
+        ap (λ (y : ℕ). bit y b) e ∙ bit-table 64 (λ b. ltb (w * 64 + b) (2 ^ n) && p (w * 64 + b)) b hb
+        ∙ ap (λ (c : Bool). c && p (w * 64 + b)) (sym (live-at framed w b hw hb))
+
     imp-not : (a c : Bool) → not (not c && a) ≡ (a ⇒ c)
     imp-not true true = refl
     imp-not true false = refl
@@ -112,7 +121,7 @@ module _ (ks fs ts ex outs : List ℕ) (n m p g : ℕ) (hg : g < m) where
         → 2 ^ 2 ^ getD ks g 0 - 1 - x ≡ full N (n + g)
     unfolding full netOf OdcAt
     full-is keep l x at h e =
-        left-out keep free x (λ w b hw hb. h w b hw hb ∙ ap₂ (λ (c d : Bool). bit live b && not (c || d)) (sym (excluded-at w b hb)) (set-bit framed (odc N (n + g)) w (getD l (16 * g + w) 0) b hw hb (at w hw))
+        left-out keep free x (λ w b hw hb. h w b hw hb ∙ ap₂ (λ (c d : Bool). bit live b && not (c || d)) (sym (excluded-at w b hb)) (set-bit (odc N (n + g)) w (getD l (16 * g + w) 0) b hw hb (at w hw))
         ∙ inside (bit live b) (excluded N (w * 64 + b)) (odc N (n + g) (w * 64 + b))) e
         ∙ table-ext (2 ^ getD ks g 0) (λ t. not (any (2 ^ n) (λ y. free y && eqb (entryOf N (n + g) y) t))) rule
         (λ t ht. sym (every-not (2 ^ n) (λ y. free y && eqb (entryOf N (n + g) y) t))

@@ -7,7 +7,7 @@ ghost use lib.Dec.{eqb};
 ghost use lib.ListN.{length, getD};
 ghost use Rattle.bits.specs.Range.{any};
 ghost use Rattle.bits.specs.Bit.{bit, differs, tableOf, column};
-ghost use Rattle.bits.specs.Cut.{wordCount};
+ghost use Rattle.bits.specs.Cut.{wordCount, Framed};
 ghost use Rattle.network.specs.declared.Answer.the-variants.{Done};
 ghost use Rattle.network.specs.Net.{entry};
 ghost use Rattle.network.specs.DontCares.{sdc, cdc, odc, full};
@@ -15,10 +15,9 @@ ghost use Rattle.network.specs.Flat.{gateAt, netOf, currentNet, wordOf};
 ghost use Rattle.network.specs.State.{stateFault};
 ghost use Rattle.network.specs.Valid.{GateOk, NetOk};
 ghost use Rattle.simulate.specs.Simulated.{wordsAt, Rows};
-ghost use Rattle.dontcares.specs.Framed.{Framed, OdcAt, Tabled, TabledFrom};
+ghost use Rattle.observability.specs.Odc.{OdcAt};
+ghost use Rattle.dontcares.specs.Tabled.{Tabled, TabledFrom};
 use network::Session;
-
-mod observability;
 
 // The live places of each word that lie neither in E nor in gate g's ODC.
 fn keep_row(excluded: &[u64; 16], odc: &[u64; 640], live: u64, count: usize, g: usize) -> [u64; 16]
@@ -147,7 +146,7 @@ fn sets_between(s: Session, a: usize, t: usize, e: usize, odc: &mut [u64; 640]) 
     let tables = s.current;
     let outputs = s.outputs;
     let excluded = s.excluded;
-    let f = observability::extent(n);
+    let f = bits::frame_of(n);
     let count = f.count;
     let live = f.live;
     let mut values = [0u64; 800];

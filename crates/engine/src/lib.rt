@@ -143,7 +143,7 @@ fn with_open_tables(s: Session) -> Loaded
     requires { ⌜ stateFault s ≡ Done ⌝ }
     ensures { λ r. ⌜ r ≡ loadDone (opened s) ⌝ }
 {
-    let o = compatible::open_tables(s);
+    let o = opentables::open_tables(s);
     holding(s, o)
 }
 
@@ -171,7 +171,7 @@ fn with_counts(s: Session) -> Counted
     requires { ⌜ stateFault s ≡ Done ⌝ }
     ensures { λ r. ⌜ r ≡ record { loaded = loadDone (opened s); counts = countsFor Done s .counts } ⌝ }
 {
-    let b = compatible::open_and_counts(s);
+    let b = opentables::open_and_counts(s);
     let o = b.opens;
     let h = b.counts;
     Counted {

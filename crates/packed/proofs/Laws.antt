@@ -2,16 +2,16 @@
 use mathlib.Core.Path.{_≡_, refl, sym, ap, _∙_}
 use mathlib.Core.Bool.{Bool, true, false, _&&_}
 use mathlib.Core.List.{List, [], _∷_, _++_, append-assoc, append-nil}
-use Prim.Native.Nat.{ℕ, suc, _+_, _≤_, _<_}
+use Prim.Native.Nat.{ℕ, zero, suc, _+_, _≤_, _<_}
 use native.Mathlib.Numerals.{add-one}
 use native.Mathlib.Omega.{arith}
 use lib.Bits.{bitOr, or-lt, or-add-and, and-le-l, and-le-r}
 use lib.Dec.{ltb}
-use lib.ListN.{length, getD, drop, set, length-append, length-drop, drop-of-length-le}
+use lib.ListN.{length, getD, take, drop, set, length-append, length-drop, drop-of-length-le}
 use lib.Seq.{take-suc, drop-cons, drop-length, getD-drop, set-at, length-take-le, sets}
 use borrow.Author.Tests.{lt-ltb, le-ltb, ltb-true}
 use Rattle.bits.specs.Range.{every}
-use Rattle.bits.proofs.Ranges.{and-l, and-r, and-i, iff}
+use Rattle.bits.proofs.Ranges.{and-l, and-r, and-i, and-true, and-assoc, iff}
 use Rattle.network.specs.declared.Session.{Session}
 use Rattle.network.specs.declared.Refusal.the-variants.{BufferTooShort, InvalidState}
 use Rattle.network.specs.declared.Answer.{Answer}
@@ -21,7 +21,7 @@ use Rattle.network.specs.Load.{loadDone, loadRefused, onward}
 use Rattle.network.proofs.TestLaws.{alone}
 use Rattle.netwrite.specs.Laid.{Room, Laid}
 use Rattle.netwrite.proofs.Laws.{Left, left-step, left-room, left-done, laid-append, stored}
-use Rattle.packed.specs.Packed.{bytesHeld, wordsHeld, byteWords, part, sessionIn, bytesTest, wordsTest, unpackOf}
+use Rattle.packed.specs.Packed.{bytesHeld, wordsHeld, byteWords, part, sessionIn, allBytes, bytesTest, wordsTest, unpackOf}
 
 -- ## Laying: xs from place `at` on; its first i numbers are laid, the next goes to place a
 
@@ -85,6 +85,17 @@ or-fits a b =
     and-i (ltb a 256) (ltb b 256) (lt-ltb a 256 (omega (arith, or-add-and a b, and-le-r a b))) (lt-ltb b 256 (omega (arith, or-add-and a b, and-le-l a b))))
     (λ e. lt-ltb (bitOr a b) 256 (or-lt 8 a b (ltb-true a 256 (and-l (ltb a 256) (ltb b 256) e)) (ltb-true b 256 (and-r (ltb a 256) (ltb b 256) e))))
 
+-- one more number
+bytes-more : (xs : List ℕ) (y : ℕ) → allBytes (xs ++ y ∷ []) ≡ (allBytes xs && ltb y 256)
+bytes-more [] y = and-true (ltb y 256)
+bytes-more (x ∷ xs) y = ap (λ (b : Bool). ltb x 256 && b) (bytes-more xs y) ∙ sym (and-assoc (ltb x 256) (allBytes xs) (ltb y 256))
+
+-- the first c numbers are bytes where each is
+pub bytes-every : (ws : List ℕ) (c : ℕ) → c ≤ length ws → allBytes (take c ws) ≡ every c (λ i. ltb (getD ws i 0) 256)
+bytes-every ws zero h = refl
+bytes-every ws (suc c) h =
+    rw (take-suc ws c 0 (omega arith)) (bytes-more (take c ws) (getD ws c 0) ∙ ap (λ (b : Bool). b && ltb (getD ws c 0) 256) (bytes-every ws c (omega arith)))
+
 -- ## The whole session
 
 pub length-bytes : (s : Session) → Shaped s → length (bytesHeld s) ≡ 291
@@ -133,9 +144,9 @@ module _ (ws : List ℕ) where
 
   pub no-byte : 427 ≤ length ws → fitting ≡ false → loadRefused InvalidState ≡ unpackOf ws
   unfolding unpackOf wordsTest bytesTest
-  no-byte h e = rw (le-ltb (length ws) 427 h, e)
+  no-byte h e = rw (le-ltb (length ws) 427 h, bytes-every ws byteWords (omega arith), e)
 
   pub tested : {v a : Answer} (s : Session) → 427 ≤ length ws → fitting ≡ true → s ≡ sessionIn ws → v ≡ stateTest s → v ≡ a → onward a (loadDone s) ≡ unpackOf ws
   unfolding unpackOf wordsTest bytesTest
   tested {v} {a} s h e q k i =
-      rw (le-ltb (length ws) 427 h, e, ← q, ← k, i) (ap (λ (b : Answer). onward b (loadDone s)) (alone a))
+      rw (le-ltb (length ws) 427 h, bytes-every ws byteWords (omega arith), e, ← q, ← k, i) (ap (λ (b : Answer). onward b (loadDone s)) (alone a))

@@ -1,10 +1,9 @@
 -- A session as a list of numbers, one to a word: how a program in another language holds it. Assumes nothing.
-use mathlib.Core.Bool.{not}
+use mathlib.Core.Bool.{Bool, true, not, _&&_}
 use mathlib.Core.List.{List, [], _∷_, _++_}
 use Prim.Native.Nat.{ℕ, _<_}
 use lib.Dec.{ltb}
 use lib.ListN.{getD, take, drop}
-use Rattle.bits.specs.Range.{every}
 use Rattle.network.specs.declared.Session.{Session}
 use Rattle.network.specs.declared.Loaded.{Loaded}
 use Rattle.network.specs.declared.Refusal.the-variants.{InvalidState}
@@ -58,9 +57,14 @@ sessionIn ws = record {
   outputs = part ws 283 8;
 }
 
+-- each of the numbers is a byte
+abbrev pub allBytes : List ℕ → Bool
+allBytes [] = true
+allBytes (x ∷ xs) = ltb x 256 && allBytes xs
+
 -- 10: a number past 255 where a session holds a byte
 unfoldable pub bytesTest : List ℕ → Answer
-bytesTest ws = refuseIf (not (every byteWords (λ i. ltb (getD ws i 0) 256))) InvalidState
+bytesTest ws = refuseIf (not (allBytes (take byteWords ws))) InvalidState
 
 -- 9 where there are too few words to hold a session, else 10 where what they hold is none, or one that 01 refuses
 unfoldable pub wordsTest : List ℕ → Answer

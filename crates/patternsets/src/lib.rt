@@ -53,8 +53,8 @@ fn words_per_set(s: Session) -> usize
     requires { ⌜ stateFault s ≡ Answer.Done ⌝ }
     ensures { λ r. ⌜ (r ≡ wordCount (s .n)) × (r ≤ 16) ⌝ }
 {
-    let e = bits::size(network::place(s.n));
-    e.words
+    let f = bits::frame_of(network::place(s.n));
+    f.count
 }
 
 // How many words the sets of all gates take.

@@ -31,7 +31,7 @@ use Rattle.network.proofs.Fresh.{Fresh}
 use Rattle.network.proofs.Reached.{loaded-fresh}
 use Rattle.network.proofs.Exchanges.{loaded-length, loaded-inputs}
 use Rattle.compatible.specs.Words.{perGate}
-use Rattle.dontcares.specs.Framed.{Tabled}
+use Rattle.dontcares.specs.Tabled.{Tabled}
 use Rattle.engine.specs.declared.Counted.{Counted}
 use Rattle.engine.specs.Counted.{countedOf}
 use Rattle.netwrite.specs.Laid.{Laid}

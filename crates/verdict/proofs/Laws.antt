@@ -13,7 +13,7 @@ use lib.Seq.{ext-getD, getD-take, getD-set-same, getD-set-other}
 use borrow.Author.Tests.{ltb-true, lt-ltb}
 use Rattle.bits.specs.Range.{any, upFrom}
 use Rattle.bits.specs.Bit.{bit, column, differs}
-use Rattle.bits.specs.Cut.{Cut}
+use Rattle.bits.specs.Cut.{Framed}
 use Rattle.bits.proofs.BitLaws.{bit-and, bit-or, bit-xor, bit-zero}
 use Rattle.bits.proofs.Logic.{clash, and-not}
 use Rattle.bits.proofs.Ranges.{iff, and-assoc, any-i, length-places, places-at, column-at}
@@ -64,16 +64,16 @@ differs-beq false true = refl
 differs-beq false false = refl
 
 -- the places that are kept are the patterns that are not excluded
-kept : (ex : List ℕ) (n W c live inv w b : ℕ) → Cut n W c → ((b : ℕ) → bit live b ≡ ltb b c) → ((b : ℕ) → b < 64 → bit inv b ≡ not (bit (getD ex w 0) b))
+kept : (ex : List ℕ) {n W live : ℕ} (inv w b : ℕ) → Framed n W live → ((b : ℕ) → b < 64 → bit inv b ≡ not (bit (getD ex w 0) b))
     → w < W → b < 64 → (d : Bool)
     → bit (bitAnd live inv) b && d ≡ ltb (w * 64 + b) (2 ^ n) && (not (bit (getD ex ((w * 64 + b) / 64) 0) ((w * 64 + b) % 64)) && d)
-kept ex n W c live inv w b cut live-at inv-at lw l d =
+kept ex {n} inv w b f inv-at lw l d =
     let word : (w * 64 + b) / 64 ≡ w = omega arith in
     let place : (w * 64 + b) % 64 ≡ b = omega arith in
-    let inside : ltb (w * 64 + b) (2 ^ n) ≡ ltb b c = iff (ltb (w * 64 + b) (2 ^ n)) (ltb b c)
-    (λ e. lt-ltb b c (rw place at (cut .place (w * 64 + b) (ltb-true (w * 64 + b) (2 ^ n) e))))
-    (λ e. lt-ltb (w * 64 + b) (2 ^ n) (cut .pattern w b lw (ltb-true b c e))) in
-    rw (bit-and, live-at b, inv-at b l, inside, word, place) (and-assoc (ltb b c) (not (bit (getD ex w 0) b)) d)
+    let inside : ltb (w * 64 + b) (2 ^ n) ≡ ltb b (f .size) = iff (ltb (w * 64 + b) (2 ^ n)) (ltb b (f .size))
+    (λ e. lt-ltb b (f .size) (rw place at (f .cut .place (w * 64 + b) (ltb-true (w * 64 + b) (2 ^ n) e))))
+    (λ e. lt-ltb (w * 64 + b) (2 ^ n) (f .cut .pattern w b lw (ltb-true b (f .size) e))) in
+    rw (bit-and, f .lives b, inv-at b l, inside, word, place) (and-assoc (ltb b (f .size)) (not (bit (getD ex w 0) b)) d)
 
 module _ (ks fs ts : List ℕ) (n m : ℕ) (ex outs : List ℕ) (p : ℕ) where
   -- an output's word has its values
@@ -99,12 +99,12 @@ module _ (ks fs ls ts : List ℕ) (n m : ℕ) (ex outs : List ℕ) (p : ℕ) whe
   abbrev pub tests : ℕ → ℕ → Bool
   tests = below (2 ^ n) (harms L M)
 
-  -- word w of W, each with c places, where `live` has the places and `inv` the patterns that are not excluded
-  pub word-harms : (xs ys : List ℕ) (W c live inv w : ℕ) → Cut n W c → ((b : ℕ) → bit live b ≡ ltb b c) → ((b : ℕ) → b < 64 → bit inv b ≡ not (bit (getD ex w 0) b))
+  -- word w of W, where `live` has the places of each and `inv` the patterns that are not excluded
+  pub word-harms : (xs ys : List ℕ) {W live : ℕ} (inv w : ℕ) → Framed n W live → ((b : ℕ) → b < 64 → bit inv b ≡ not (bit (getD ex w 0) b))
       → w < W → Simulated ks fs ls xs n m w → Simulated ks fs ts ys n m w → OutputsOk outs p (n + m)
       → wordHarm (changedAt outs xs ys (bitAnd live inv) w) p w ≡ wordHarm tests p w
   unfolding wordHarm changedAt harms excludedFor excluded netOf
-  word-harms xs ys W c live inv w cut live-at inv-at lw sx sy ok =
+  word-harms xs ys {W} {live} inv w framed inv-at lw sx sy ok =
       search-ext (changedAt outs xs ys (bitAnd live inv) w) tests p (w * 64) 64 (λ b l i h.
       rw (back (w * 64) b)
       (bit-and (bitAnd live inv) (changedWord outs xs ys i) b
@@ -112,12 +112,12 @@ module _ (ks fs ls ts : List ℕ) (n m : ℕ) (ex outs : List ℕ) (p : ℕ) whe
       (bit-xor (getD xs (getD outs i 0) 0) (getD ys (getD outs i 0) 0) b
       ∙ ap₂ differs (output-word ks fs ls n m ex outs p xs w b i sx ok l h) (output-word ks fs ts n m ex outs p ys w b i sy ok l h)
       ∙ differs-beq (output L (w * 64 + b) i) (output M (w * 64 + b) i))
-      ∙ kept ex n W c live inv w b cut live-at inv-at lw l (not (Bool·beq (output L (w * 64 + b) i) (output M (w * 64 + b) i)))))
+      ∙ kept ex inv w b framed inv-at lw l (not (Bool·beq (output L (w * 64 + b) i) (output M (w * 64 + b) i)))))
 
-  pub harm-start : (W c : ℕ) → Cut n W c → left tests p W 0 ≡ harmTest L M
+  pub harm-start : {W live : ℕ} → Framed n W live → left tests p W 0 ≡ harmTest L M
   unfolding harmTest patternOrder netOf
-  harm-start W c cut =
-      words-start n W c (harms L M) p cut
+  harm-start framed =
+      words-start (harms L M) p (framed .cut)
       ∙ ap (λ (q : ℕ). firstHarm (harms L M) q (upFrom 0 (2 ^ n))) (sym (length-places p (λ i. getD outs i 0)))
 
 -- ## A table put in place

@@ -97,8 +97,8 @@ abbrev pub below : ℕ → (ℕ → ℕ → Bool) → ℕ → ℕ → Bool
 below n h x i = ltb x n && h x i
 
 -- places past the last pattern count for nothing
-pub words-start : (n W L : ℕ) (h : ℕ → ℕ → Bool) (p : ℕ) → Cut n W L → left (below (2 ^ n) h) p W 0 ≡ firstHarm h p (upFrom 0 (2 ^ n))
-words-start n W L h p cut =
+pub words-start : {n W L : ℕ} (h : ℕ → ℕ → Bool) (p : ℕ) → Cut n W L → left (below (2 ^ n) h) p W 0 ≡ firstHarm h p (upFrom 0 (2 ^ n))
+words-start {n} {W} h p cut =
     let big : 2 ^ n ≤ W * 64 = ⊎-elim (λ u. omega (arith, cut .places)) (λ u. omega arith) (cut .whole) in
     let q : W * 64 - 0 * 64 ≡ 2 ^ n + (W * 64 - 2 ^ n) = omega arith in
     ap (λ (c : ℕ). firstHarm (below (2 ^ n) h) p (upFrom 0 c)) q ∙ search-parts (below (2 ^ n) h) p 0 (2 ^ n) (W * 64 - 2 ^ n)

@@ -127,9 +127,9 @@ fn network_harm(
     requires { ⌜ OutputsOk (now outs) p (n + m) ⌝ }
     ensures { λ r. ⌜ r ≡ harmTest (netOf (now (arity .entry)) (now (fanins .entry)) (now (loaded .entry)) n m (now (excluded .entry)) (now (outs .entry)) p) (netOf (now (arity .entry)) (now (fanins .entry)) (now (tables .entry)) n m (now (excluded .entry)) (now (outs .entry)) p) ⌝ }
 {
-    let z = bits::size(n);
-    let words = z.words;
-    let live = bits::mask(z.places);
+    let f = bits::frame_of(n);
+    let words = f.count;
+    let live = f.live;
     let mut xs = [0u64; 800];
     simulate::rows(n, m, arity, fanins, loaded, words, &mut xs);
     let mut ys = xs;

@@ -1,8 +1,13 @@
 -- `compatible::compatible_sets` meets its contract. Assumes nothing.
-use Rattle.compatible.proofs.Loaded.{net-fine, sets-are}
 use borrow.Author.Needs.{needs}
+use native.Mathlib.Omega.{arith}
+use Rattle.network.proofs.Valid.{net-ok}
+use Rattle.compatible.proofs.Loaded.{sets-are}
 use Rattle.compatible.proofs.compatible_sets.Statement.{statement}
 use Rattle.compatible.proofs.compatible_sets.Tie as tie
+
+loaded-rows-requires : tie.Need-loaded-rows-requires
+loaded-rows-requires c κs = search needs
 
 place-requires : tie.Need-place-requires
 place-requires c κs = search needs
@@ -10,21 +15,24 @@ place-requires c κs = search needs
 place-requires-2 : tie.Need-place-requires-2
 place-requires-2 c κs = search needs
 
-place-requires-3 : tie.Need-place-requires-3
-place-requires-3 c κs = search needs
-
-sets-of-requires : tie.Need-sets-of-requires
-sets-of-requires c κs =
-    let q = c .before .before .before .before .before .before .before .before .before .before in
-    let s = q .before .before .before in
-    net-fine (s .args .s) (q .before .before .place .result) (q .before .place2 .result) (q .place3 .result) (q .before .before .place .ensures) (q .before .place2 .ensures) (q .place3 .ensures) (s .pre)
+sets-from-requires : tie.Need-sets-from-requires
+sets-from-requires c κs =
+    let m = c .before in
+    let n = m .before in
+    let r = n .before in
+    let s = r .before .before .before in
+    let ok = net-ok (s .args .s) (s .pre) in
+    (omega (arith, n .place .ensures, ok .ins), omega (arith, m .place2 .ensures, ok .most), r .loaded-rows .ensures .frame .cut .words)
 
 returns : tie.Need-returns
 returns c =
-    let q = c .before .before .before .before .before .before .before .before .before .before .before in
-    let s = q .before .before .before in
-    sets-are (s .args .s) (q .before .before .place .result) (q .before .place2 .result) (q .place3 .result) (q .before .before .place .ensures) (q .before .place2 .ensures) (q .place3 .ensures) (c .sets-of .result) (c .sets-of .ensures)
+    let m = c .before .before in
+    let n = m .before in
+    let r = n .before in
+    let s = r .before .before .before in
+    sets-are (s .args .s) _ _ (n .place .ensures) (m .place2 .ensures) (s .pre) (r .loaded-rows .ensures) (c .sets-from .result) (c .sets-from .ensures)
 
 pub compatible-sets-spec : {M : Type 1} → statement M
 compatible-sets-spec =
-    tie.close (tie.spec place-requires place-requires-2 place-requires-3 sets-of-requires returns)
+    tie.close
+    (tie.spec loaded-rows-requires place-requires place-requires-2 sets-from-requires returns)

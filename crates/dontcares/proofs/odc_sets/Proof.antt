@@ -1,7 +1,7 @@
 -- `dontcares::odc_sets` meets its contract. Assumes nothing.
 use borrow.Author.Needs.{needs}
 use native.Mathlib.Omega.{arith}
-use Rattle.dontcares.specs.Framed.{OdcAt}
+use Rattle.observability.specs.Odc.{OdcAt}
 use Rattle.dontcares.proofs.odc_sets.Statement.{statement}
 use Rattle.dontcares.proofs.odc_sets.Tie as tie
 

@@ -26,43 +26,43 @@ place-requires-2 c κs = search needs
 place-requires-3 : tie.Need-place-requires-3
 place-requires-3 c κs = search needs
 
-extent-requires : tie.Need-extent-requires
-extent-requires c κs = fine (c .before .before .before .before .before) .net .ins
+frame-of-requires : tie.Need-frame-of-requires
+frame-of-requires c κs = fine (c .before .before .before .before .before) .net .ins
 
 rows-requires : tie.Need-rows-requires
 rows-requires c κs =
-    let xt = c .before .before .before .before in
-    (fine (xt .before .before .before .before .before .before) .net, (xt .extent .ensures .cut .words, refl))
+    let fr = c .before .before .before .before in
+    (fine (fr .before .before .before .before .before .before) .net, (fr .frame-of .ensures .cut .words, refl))
 
 odc-words-requires : tie.Need-odc-words-requires
 odc-words-requires c κs =
     let ro = c .before .before .before .before .before .before in
-    let xt = ro .before .before .before .before .before in
-    let p3 = xt .before .before .before .before .before .before in
+    let fr = ro .before .before .before .before .before in
+    let p3 = fr .before .before .before .before .before .before in
     let f = fine p3 in
-    (f .net, (f .outs, (ro .rows .ensures, (xt .extent .ensures, most p3, p3 .before .before .before .pre .1 .3))))
+    (f .net, (f .outs, (ro .rows .ensures, (fr .frame-of .ensures, most p3, p3 .before .before .before .pre .1 .3))))
 
 tables-of-requires : tie.Need-tables-of-requires
 tables-of-requires c κs =
-    let xt = c .before .before .before .before .before .before .before .before .before .before .before .before .before .before .before .before .before in
-    let p3 = xt .before .before .before .before .before .before in
+    let fr = c .before .before .before .before .before .before .before .before .before .before .before .before .before .before .before .before .before in
+    let p3 = fr .before .before .before .before .before .before in
     let f = fine p3 .net in
     let few = p3 .before .before .before .pre .1 in
-    ((few .0, omega (arith, few .1, most p3, f .most), xt .extent .ensures .cut .words), λ g h. later (omega (arith, f .ins, f .most, few .1, most p3)) (f .gate g (omega (arith, few .1, most p3))))
+    ((few .0, omega (arith, few .1, most p3, f .most), fr .frame-of .ensures .cut .words), λ g h. later (omega (arith, f .ins, f .most, few .1, most p3)) (f .gate g (omega (arith, few .1, most p3))))
 
 returns : tie.Need-returns
 unfolding currentNet
 returns c =
     let ow = c .before .before .before .before .before .before in
     let ro = ow .before .before .before .before .before .before .before in
-    let xt = ro .before .before .before .before .before in
-    let p3 = xt .before .before .before .before .before .before in
+    let fr = ro .before .before .before .before .before in
+    let p3 = fr .before .before .before .before .before .before in
     let x = p3 .before .before .before in
     let s = x .args .s in
     let odc-at = ow .odc-words .ensures (s .excluded) in (
-      λ g f l. rw (xt .extent .ensures .words, p3 .before .before .place .ensures, p3 .before .place2 .ensures, p3 .place3 .ensures) at (odc-at g f l),
+      λ g f l. rw (fr .frame-of .ensures .words, p3 .before .before .place .ensures, p3 .before .place2 .ensures, p3 .place3 .ensures) at (odc-at g f l),
       rw (p3 .before .before .place .ensures, p3 .before .place2 .ensures, p3 .place3 .ensures) at
-          (c .tables-of .ensures (s .current) (s .outputs) (p3 .before .before .place .result) (p3 .before .place2 .result) (p3 .place3 .result) (omega (arith, x .pre .1 .1, most p3)) (fine p3 .net) (ro .rows .ensures .1) (xt .extent .ensures)
+          (c .tables-of .ensures (s .current) (s .outputs) (p3 .before .before .place .result) (p3 .before .place2 .result) (p3 .place3 .result) (omega (arith, x .pre .1 .1, most p3)) (fine p3 .net) (ro .rows .ensures .1) (fr .frame-of .ensures)
           (λ g f l. odc-at g f (omega (arith, x .pre .1 .1)))),
     )
 
@@ -73,7 +73,7 @@ sets-between-spec =
     place-requires
     place-requires-2
     place-requires-3
-    extent-requires
+    frame-of-requires
     rows-requires
     odc-words-requires
     tables-of-requires

@@ -6,10 +6,12 @@ use Prim.Native.Nat.{ℕ, _-_, _≤_, _<_}
 use native.Mathlib.Omega.{arith}
 use lib.ListN.{length, length-set}
 use denote.Ref.{now}
+use Rattle.bits.specs.Cut.{Framed}
 use Rattle.network.specs.Flat.{netOf}
 use Rattle.network.specs.Valid.{NetOk}
 use Rattle.simulate.specs.Simulated.{Rows}
-use Rattle.dontcares.specs.Framed.{Framed, OdcAt, TabledFrom}
+use Rattle.observability.specs.Odc.{OdcAt}
+use Rattle.dontcares.specs.Tabled.{TabledFrom}
 use Rattle.dontcares.proofs.TableLaws.{no-tables, tables-more}
 use Rattle.dontcares.proofs.tables_of.Statement.{statement}
 use Rattle.dontcares.proofs.tables_of.Tie as tie

@@ -4,7 +4,7 @@ use mathlib.Core.List.{List}
 use Prim.Native.Nat.{ℕ}
 use Rattle.network.specs.declared.Loaded.{Loaded}
 use Rattle.network.specs.Load.{loadDone, withOpenTables}
-use Rattle.compatible.specs.declared.OpenCounts.{OpenCounts}
+use Rattle.opentables.specs.declared.OpenCounts.{OpenCounts}
 use Rattle.engine.specs.declared.Counted.{Counted}
 use borrow.Author.Needs.{needs}
 use Rattle.engine.proofs.with_counts.Statement.{statement}

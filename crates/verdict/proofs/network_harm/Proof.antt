@@ -20,59 +20,55 @@ Inv-loop n m p excluded arity fanins loaded tables outs words live xs ys w₀ w 
 abbrev μ-loop : tie.MeasureT-loop
 μ-loop n m p excluded arity fanins loaded tables outs words live xs ys w₀ w = words - w
 
-size-requires : tie.Need-size-requires Inv-loop μ-loop
-size-requires c κs = c .pre .0 .ins
-
-mask-requires : tie.Need-mask-requires Inv-loop μ-loop
-mask-requires c κs = c .size .ensures .places
+frame-of-requires : tie.Need-frame-of-requires Inv-loop μ-loop
+frame-of-requires c κs = c .pre .0 .ins
 
 rows-requires : tie.Need-rows-requires Inv-loop μ-loop
-rows-requires c κs = let size = c .before .before in (size .before .pre .0, (size .size .ensures .words, refl))
+rows-requires c κs = let frame = c .before in (frame .before .pre .0, (frame .frame-of .ensures .cut .words, refl))
 
 update-requires : tie.Need-update-requires Inv-loop μ-loop
 update-requires c κs =
     let rows = c .before in
-    let size = rows .before .before .before in
-    (size .before .pre .0, ((size .size .ensures .words, rows .rows .ensures .0), rows .rows .ensures .1))
+    let frame = rows .before .before in
+    (frame .before .pre .0, ((frame .frame-of .ensures .cut .words, rows .rows .ensures .0), rows .rows .ensures .1))
 
 loop-holds : tie.Need-loop-holds Inv-loop μ-loop
 loop-holds c =
-    let size = c .before .before .before .before .before in
-    let a = size .before .args in
-    (omega arith, harm-start (a .arity .now) (a .fanins .now) (a .loaded .now) (a .tables .now) (a .n) (a .m) (a .excluded .now) (a .outs .now) (a .p) _ _ (size .size .ensures))
+    let frame = c .before .before .before .before in
+    let a = frame .before .args in
+    (omega arith, harm-start (a .arity .now) (a .fanins .now) (a .loaded .now) (a .tables .now) (a .n) (a .m) (a .excluded .now) (a .outs .now) (a .p) (frame .frame-of .ensures))
 
 mul-invert : tie.Need-mul-invert Inv-loop μ-loop
-mul-invert c = omega (arith, c .before .before .before .before .before .before .before .size .ensures .words)
+mul-invert c = omega (arith, c .before .before .before .before .before .before .frame-of .ensures .cut .words)
 
 element-copy-out-invert : tie.Need-element-copy-out-invert Inv-loop μ-loop
-element-copy-out-invert c = omega (arith, c .before .before .before .before .before .before .before .size .ensures .words)
+element-copy-out-invert c = omega (arith, c .before .before .before .before .before .before .frame-of .ensures .cut .words)
 
 invert-requires : tie.Need-invert-requires Inv-loop μ-loop
 invert-requires c κs = search needs
 
 compare-requires : tie.Need-compare-requires Inv-loop μ-loop
 compare-requires c κs =
-    let size = c .before .before .before .before .before .before .before .before .before .before .before in
-    let s = size .before in
-    (outputs-fit (s .pre .0) (s .pre .1), omega (arith, size .size .ensures .words))
+    let frame = c .before .before .before .before .before .before .before .before .before .before in
+    let s = frame .before in
+    (outputs-fit (s .pre .0) (s .pre .1), omega (arith, frame .frame-of .ensures .cut .words))
 
 -- the answer of a word, by the tests of the whole search
 answer : (c : tie.After-compare Inv-loop μ-loop) →
     let at = c .before .before .before .before .before .before in
-    let a = at .before .before .before .before .before .before .before .args in
+    let a = at .before .before .before .before .before .before .args in
     c .compare .result ≡ wordHarm (tests (a .arity .now) (a .fanins .now) (a .loaded .now) (a .tables .now) (a .n) (a .m) (a .excluded .now) (a .outs .now) (a .p)) (a .p) (at .loop .w)
 answer c =
     let inv = c .before .before .before in
     let test = inv .before .before in
     let ys = test .before .before in
     let xs = ys .before .before in
-    let mask = xs .before .before in
-    let size = mask .before in
-    let s = size .before in
+    let frame = xs .before .before in
+    let s = frame .before in
     let a = s .args in
     c .compare .ensures
-    ∙ word-harms (a .arity .now) (a .fanins .now) (a .loaded .now) (a .tables .now) (a .n) (a .m) (a .excluded .now) (a .outs .now) (a .p) _ _ _ _ _ _ _
-    (size .size .ensures) (mask .mask .ensures .1) (inv .invert .ensures) (test .loop-test .taken) (xs .rows .ensures .1 _ (test .loop-test .taken)) (ys .update .ensures .1 _ (test .loop-test .taken)) (s .pre .1)
+    ∙ word-harms (a .arity .now) (a .fanins .now) (a .loaded .now) (a .tables .now) (a .n) (a .m) (a .excluded .now) (a .outs .now) (a .p) _ _ _ _
+    (frame .frame-of .ensures) (inv .invert .ensures) (test .loop-test .taken) (xs .rows .ensures .1 _ (test .loop-test .taken)) (ys .update .ensures .1 _ (test .loop-test .taken)) (s .pre .1)
 
 enum-told : tie.Need-enum-told Inv-loop μ-loop
 enum-told c = search needs
@@ -105,8 +101,7 @@ network-harm-spec =
     (tie.spec
     Inv-loop
     μ-loop
-    size-requires
-    mask-requires
+    frame-of-requires
     rows-requires
     update-requires
     loop-holds

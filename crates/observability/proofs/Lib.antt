@@ -1,0 +1,2 @@
+pub mod OdcLaws
+pub mod Words

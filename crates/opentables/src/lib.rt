@@ -1,0 +1,128 @@
+// Rule 7: open tables of the loaded network, from the rows of the values and of H.
+ghost use mathlib.Core.Path.{_≡_};
+ghost use Prim.Native.Nat.{_+_, _*_, _<_, _≤_};
+ghost use Rattle.network.specs.Compatible.{compatibleCount, openTables};
+ghost use Rattle.network.specs.Flat.{loadedNet};
+ghost use Rattle.network.specs.State.{stateFault};
+ghost use Rattle.network.specs.Valid.{GateOk, NetOk};
+ghost use Rattle.simulate.specs.Simulated.{wordsAt};
+ghost use Rattle.compatible.specs.Words.{perGate};
+ghost use Rattle.opentables.specs.Closed.{closedIn, closedBy, openBy};
+use network::Answer;
+use network::Session;
+
+// Rule 7 in word w: the entries of gate g that a place of live, outside the gate's own set, delivers.
+fn closed_in(
+    n: usize,
+    arity: &[u8; 40],
+    fanins: &[u8; 240],
+    rows: &[u64; 800],
+    hs: &[u64; 800],
+    live: u64,
+    g: usize,
+    w: usize,
+) -> u64
+    requires { ⌜ (n ≤ 10) × (g < 40) × (w < 16) ⌝ }
+    requires { ⌜ GateOk (now arity) (now fanins) g 50 ⌝ }
+    ensures { λ r. ⌜ r ≡ closedIn (now (arity .entry)) (now (fanins .entry)) (wordsAt (now (rows .entry)) w) (wordsAt (now (hs .entry)) w) n live g ⌝ }
+{
+    let ins = simulate::gather_at(arity, fanins, rows, g, w);
+    let moved = simulate::gather_at(arity, fanins, hs, g, w);
+    let keep = live & bits::invert(hs[16 * (n + g) + w]);
+    entries::reach(network::place(arity[g]), &ins, &moved, keep)
+}
+
+// The same in all words. Once all entries are delivered, the words left add none.
+fn closed_by(
+    n: usize,
+    arity: &[u8; 40],
+    fanins: &[u8; 240],
+    rows: &[u64; 800],
+    hs: &[u64; 800],
+    live: u64,
+    count: usize,
+    g: usize,
+) -> u64
+    requires { ⌜ (n ≤ 10) × (g < 40) × (count ≤ 16) ⌝ }
+    requires { ⌜ GateOk (now arity) (now fanins) g 50 ⌝ }
+    ensures { λ r. ⌜ r ≡ closedBy (now (arity .entry)) (now (fanins .entry)) (now (rows .entry)) (now (hs .entry)) n live count g ⌝ }
+{
+    let all = bits::mask(entries::entry_count(network::place(arity[g])));
+    let mut acc: u64 = 0;
+    let mut w = 0;
+    while w < count {
+        if acc == all {
+            return acc;
+        }
+        acc = acc | closed_in(n, arity, fanins, rows, hs, live, g, w);
+        w += 1;
+    }
+    acc
+}
+
+// The open tables of all gates, by the rows of the values and of H.
+fn open_from(
+    n: usize,
+    m: usize,
+    arity: &[u8; 40],
+    fanins: &[u8; 240],
+    rows: &[u64; 800],
+    hs: &[u64; 800],
+    live: u64,
+    count: usize,
+) -> [u64; 40]
+    requires { ⌜ NetOk (now arity) (now fanins) n m ⌝ }
+    requires { ⌜ count ≤ 16 ⌝ }
+    ensures { λ r. ⌜ r ≡ perGate m (openBy (now (arity .entry)) (now (fanins .entry)) (now (rows .entry)) (now (hs .entry)) n live count) ⌝ }
+{
+    let mut opens = [0u64; 40];
+    let mut g = 0;
+    while g < m {
+        let c = entries::entry_count(network::place(arity[g]));
+        let v = bits::rest(c, closed_by(n, arity, fanins, rows, hs, live, count, g));
+        opens[g] = v;
+        g += 1;
+    }
+    opens
+}
+
+// The open tables of the loaded network.
+pub fn open_tables(s: Session) -> [u64; 40]
+    requires { ⌜ stateFault s ≡ Answer.Done ⌝ }
+    ensures { λ r. ⌜ r ≡ openTables (loadedNet s) ⌝ }
+{
+    let mut rows = [0u64; 800];
+    let mut hs = [0u64; 800];
+    let f = compatible::loaded_rows(s, &mut rows, &mut hs);
+    let n = network::place(s.n);
+    let m = network::place(s.m);
+    let arity = s.arity;
+    let fanins = s.fanins;
+    open_from(n, m, &arity, &fanins, &rows, &hs, f.live, f.count)
+}
+
+// The open table of each gate, and how many patterns its compatible set has.
+pub struct OpenCounts {
+    pub opens: [u64; 40],
+    pub counts: [u64; 40],
+}
+
+// Both from one computation of the compatible sets.
+pub fn open_and_counts(s: Session) -> OpenCounts
+    requires { ⌜ stateFault s ≡ Answer.Done ⌝ }
+    ensures { λ r. ⌜ r ≡ record { opens = openTables (loadedNet s); counts = perGate (s .m) (λ g. compatibleCount (loadedNet s) (s .n + g)) } ⌝ }
+{
+    let mut rows = [0u64; 800];
+    let mut hs = [0u64; 800];
+    let f = compatible::loaded_rows(s, &mut rows, &mut hs);
+    let n = network::place(s.n);
+    let m = network::place(s.m);
+    let arity = s.arity;
+    let fanins = s.fanins;
+    let live = f.live;
+    let count = f.count;
+    let opens = open_from(n, m, &arity, &fanins, &rows, &hs, live, count);
+    let sets = compatible::sets_from(n, m, &hs, live, count);
+    let counts = compatible::counts_of(m, count, &sets);
+    OpenCounts { opens, counts }
+}
