@@ -12,7 +12,7 @@ use lib.Bits.{bitOr, or-lt}
 use borrow.Author.Tests.{ltb-true, lt-ltb, le-ltb}
 use Rattle.bits.specs.Range.{num, every, any, count}
 use Rattle.bits.specs.Bit.{bit, tableOf}
-use Rattle.bits.specs.Cut.{Cut, wordCount}
+use Rattle.bits.specs.Cut.{Cut, wordCount, Framed}
 use Rattle.bits.proofs.BitLaws.{bit-or, bit-ext, bit-not, bit-zero, bit-ones, num-lt}
 use Rattle.bits.proofs.Ranges.{iff, and-l, and-r, and-i, any-e, any-i, table-lt, table-ext, bit-table}
 
@@ -48,6 +48,14 @@ cut-words n W L cut = go (decLt n 6) (cut .whole)
         wide : ((W ≡ 1) × (L ≡ 2 ^ n)) ⊎ ((L ≡ 64) × (W * 64 ≡ 2 ^ n)) → 2 ^ n ≡ 2 ^ (n - 6) * 64 → 0 < 2 ^ (n - 6) → W ≡ 2 ^ (n - 6)
         wide (inl e) p q = omega (arith, e .0, e .1, cut .places)
         wide (inr e) p q = omega (arith, e .1)
+
+-- a live place of word w is a pattern
+pub live-at : {n count live : ℕ} → Framed n count live → (w b : ℕ) → w < count → b < 64 → bit live b ≡ ltb (w * 64 + b) (2 ^ n)
+live-at {n} f w b hw hb =
+    f .lives b
+    ∙ iff (ltb b (f .size)) (ltb (w * 64 + b) (2 ^ n))
+    (λ e. lt-ltb (w * 64 + b) (2 ^ n) (f .cut .pattern w b hw (ltb-true b (f .size) e)))
+    (λ e. lt-ltb b (f .size) (omega (arith, f .cut .place (w * 64 + b) (ltb-true (w * 64 + b) (2 ^ n) e))))
 
 -- some pattern passes where some place of some word does
 pub any-cut : {n W L : ℕ} → Cut n W L → (q : ℕ → Bool) → any W (λ w. any 64 (λ b. ltb b L && q (w * 64 + b))) ≡ any (2 ^ n) q
@@ -139,17 +147,20 @@ count-full live h (suc w) q =
     ap₂ (λ (x y : ℕ). x + y) (count-full live h w q) (count-ext 64 (λ b. bit live b && q (w * 64 + b)) (λ b. q (w * 64 + b)) (λ b l. ap (λ (x : Bool). x && q (w * 64 + b)) (h b l)))
     ∙ sym (ap (λ (k : ℕ). count k q) e ∙ count-add (w * 64) 64 q)
 
-pub count-cut : (n W L live : ℕ) (q : ℕ → Bool) → Cut n W L → ((b : ℕ) → bit live b ≡ ltb b L) → countBy live W q ≡ count (2 ^ n) q
-count-cut n W L live q cut live-at = go (cut .whole)
+pub count-cut : {n W live : ℕ} → Framed n W live → (q : ℕ → Bool) → countBy live W q ≡ count (2 ^ n) q
+count-cut {n} {W} {live} f q = go (f .cut .whole)
   where
+    L : ℕ
+    L = f .size
+
     go : ((W ≡ 1) × (L ≡ 2 ^ n)) ⊎ ((L ≡ 64) × (W * 64 ≡ 2 ^ n)) → countBy live W q ≡ count (2 ^ n) q
     go (inl e) =
-        let d : 64 ≡ L + (64 - L) = omega (arith, cut .places) in
+        let d : 64 ≡ L + (64 - L) = omega (arith, f .cut .places) in
         ap (λ (w : ℕ). countBy live w q) (e .0)
         ∙ zero-add (count 64 (λ b. bit live b && q (0 * 64 + b)))
-        ∙ count-ext 64 (λ b. bit live b && q (0 * 64 + b)) (λ b. ltb b L && q b) (λ b h. ap₂ (λ (x : Bool) (i : ℕ). x && q i) (live-at b) (omega arith))
+        ∙ count-ext 64 (λ b. bit live b && q (0 * 64 + b)) (λ b. ltb b L && q b) (λ b h. ap₂ (λ (x : Bool) (i : ℕ). x && q i) (f .lives b) (omega arith))
         ∙ ap (λ (k : ℕ). count k (λ b. ltb b L && q b)) d ∙ count-below L (64 - L) q ∙ ap (λ (k : ℕ). count k q) (e .1)
-    go (inr e) = count-full live (λ b h. live-at b ∙ lt-ltb b L (omega (arith, e .0))) W q ∙ ap (λ (k : ℕ). count k q) (e .1)
+    go (inr e) = count-full live (λ b h. f .lives b ∙ lt-ltb b L (omega (arith, e .0))) W q ∙ ap (λ (k : ℕ). count k q) (e .1)
 
 -- once all entries are there, more places add none
 pub all-there : (K : ℕ) (p : ℕ → ℕ → Bool) (w W acc : ℕ) → w ≤ W → acc ≡ tableOf K (λ t. any w (p t)) → acc ≡ 2 ^ K - 1

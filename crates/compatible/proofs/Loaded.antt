@@ -47,4 +47,4 @@ module _ (s : Session) (n m : ℕ) (en : n ≡ s .n) (em : m ≡ s .m) where
   counts-are {count} {live} l f words =
       let F : Framed (s .n) count live = rw en at f in
       ap (λ (k : ℕ). perGate k (λ g. onesIn l (16 * g) count)) em
-      ∙ counts-by (s .n) (s .m) count (F .size) l (λ g. compatible (loadedNet s) (s .n + g)) (F .cut) (λ g w h hw. words g w h (omega (arith, F .words)))
+      ∙ counts-by F (s .m) l (λ g. compatible (loadedNet s) (s .n + g)) (λ g w h hw. words g w h (omega (arith, F .words)))

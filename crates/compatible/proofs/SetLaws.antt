@@ -94,4 +94,4 @@ module _ (ks fs ts ex outs : List ℕ) (n m p : ℕ) where
         → (g w : ℕ) → g < m → w < count → getD l (16 * g + w) 0 ≡ wordOf n (compatible N (n + g)) w
     set-words {rows} {hs} {count} {live} f found l words g w hg hw =
         words g w hg hw
-        ∙ word-is n count (f .size) live w (getD (wordsAt hs w) (n + g) 0) (compatible N (n + g)) (f .cut) (f .word) (f .lives) hw (λ b hb. found .sets w hw b hb (n + g) (omega arith))
+        ∙ word-is f w (getD (wordsAt hs w) (n + g) 0) (compatible N (n + g)) hw (λ b hb. found .sets w hw b hb (n + g) (omega arith))

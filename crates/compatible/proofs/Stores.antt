@@ -2,7 +2,7 @@
 use mathlib.Core.Path.{_≡_, refl, sym, ap, ap₂, _∙_, subst}
 use mathlib.Core.Bool.{Bool, cond, _&&_}
 use mathlib.Core.List.{List}
-use Prim.Native.Nat.{ℕ, zero, suc, _+_, _-_, _*_, _%_, _^_, _<_, _≤_}
+use Prim.Native.Nat.{ℕ, zero, suc, _+_, _-_, _*_, _^_, _<_, _≤_}
 use native.Mathlib.Nat.{lt-of-le-of-lt}
 use native.Mathlib.Numerals.{add-one}
 use native.Mathlib.Omega.{arith}
@@ -11,32 +11,24 @@ use lib.Dec.{ltb}
 use lib.Bits.{bitAnd, and-le-l}
 use lib.ListN.{length, getD, set, replicate, getD-replicate}
 use lib.Seq.{getD-set-same, getD-set-other, ext-getD}
-use borrow.Author.Tests.{lt-ltb, le-ltb, ltb-true}
+use borrow.Author.Tests.{lt-ltb, le-ltb}
 use Rattle.bits.specs.Range.{count}
 use Rattle.bits.specs.Bit.{bit, tableOf}
-use Rattle.bits.specs.Cut.{Cut}
-use Rattle.bits.proofs.BitLaws.{bit-and, bit-ext, bit-mask}
-use Rattle.bits.proofs.Ranges.{Changed, iff, lt-cases, length-places, places-at, places-ext, table-lt, bit-table}
-use Rattle.bits.proofs.Cuts.{countBy, count-ext, count-le, count-cut}
+use Rattle.bits.specs.Cut.{Framed}
+use Rattle.bits.proofs.BitLaws.{bit-and, bit-ext}
+use Rattle.bits.proofs.Ranges.{Changed, lt-cases, length-places, places-at, places-ext, table-lt, bit-table}
+use Rattle.bits.proofs.Cuts.{live-at, countBy, count-ext, count-le, count-cut}
 use Rattle.network.specs.Flat.{wordOf}
 use Rattle.compatible.specs.Words.{perGate, onesIn}
 
 -- ## The words of a set
 
--- a place of word w is live where it is a pattern
-pub live-place : (n W L w b : ℕ) → Cut n W L → w < W → b < 64 → ltb b L ≡ ltb (w * 64 + b) (2 ^ n)
-live-place n W L w b cut hw hb =
-    iff (ltb b L) (ltb (w * 64 + b) (2 ^ n))
-    (λ e. lt-ltb (w * 64 + b) (2 ^ n) (cut .pattern w b hw (ltb-true b L e)))
-    (λ e. let r : (w * 64 + b) % 64 ≡ b = omega arith in lt-ltb b L (subst (λ (i : ℕ). i < L) r (cut .place (w * 64 + b) (ltb-true (w * 64 + b) (2 ^ n) e))))
-
-pub word-is : (n W L live w h : ℕ) (q : ℕ → Bool) → Cut n W L → live < 2 ^ 64 → ((b : ℕ) → bit live b ≡ ltb b L) → w < W
-    → ((b : ℕ) → b < 64 → bit h b ≡ q (w * 64 + b)) → bitAnd live h ≡ wordOf n q w
+pub word-is : {n W live : ℕ} → Framed n W live → (w h : ℕ) (q : ℕ → Bool) → w < W → ((b : ℕ) → b < 64 → bit h b ≡ q (w * 64 + b)) → bitAnd live h ≡ wordOf n q w
 unfolding wordOf
-word-is n W L live w h q cut small live-at hw set-at =
+word-is {n} {W} {live} f w h q hw set-at =
     let p : ℕ → Bool = λ b. ltb (w * 64 + b) (2 ^ n) && q (w * 64 + b) in
-    bit-ext 64 (bitAnd live h) (tableOf 64 p) (lt-of-le-of-lt (and-le-l live h) small) (table-lt 64 p)
-    (λ b hb. bit-and live h b ∙ ap₂ (λ (x y : Bool). x && y) (live-at b ∙ live-place n W L w b cut hw hb) (set-at b hb) ∙ sym (bit-table 64 p b hb))
+    bit-ext 64 (bitAnd live h) (tableOf 64 p) (lt-of-le-of-lt (and-le-l live h) (f .word)) (table-lt 64 p)
+    (λ b hb. bit-and live h b ∙ ap₂ (λ (x y : Bool). x && y) (live-at f w b hw hb) (set-at b hb) ∙ sym (bit-table 64 p b hb))
 
 -- one more word of each gate
 pub sets-step : (q : ℕ → ℕ → ℕ) (w m : ℕ) (l l′ : List ℕ)
@@ -61,18 +53,18 @@ ones-le ws at (suc w) = go (onesIn ws at w) (count 64 (bit (getD ws (at + w) 0))
     go : (a c : ℕ) → a ≤ 64 * w → c ≤ 64 → a + c ≤ 64 * suc w
     go a c h l = omega arith
 
-pub ones-are : (n W L at : ℕ) (ws : List ℕ) (q : ℕ → Bool) → Cut n W L → ((w : ℕ) → w < W → getD ws (at + w) 0 ≡ wordOf n q w) → onesIn ws at W ≡ count (2 ^ n) q
+ones-are : {n W live : ℕ} → Framed n W live → (at : ℕ) (ws : List ℕ) (q : ℕ → Bool) → ((w : ℕ) → w < W → getD ws (at + w) 0 ≡ wordOf n q w) → onesIn ws at W ≡ count (2 ^ n) q
 unfolding onesIn wordOf
-ones-are n W L at ws q cut words = by W (omega arith) ∙ count-cut n W L (2 ^ L - 1) q cut (bit-mask L)
+ones-are {n} {W} {live} f at ws q words = by W (omega arith) ∙ count-cut f q
   where
-    by : (w : ℕ) → w ≤ W → onesIn ws at w ≡ countBy (2 ^ L - 1) w q
+    by : (w : ℕ) → w ≤ W → onesIn ws at w ≡ countBy live w q
     by zero h = refl
     by (suc w) h =
         let p : ℕ → Bool = λ b. ltb (w * 64 + b) (2 ^ n) && q (w * 64 + b) in
         ap₂ (λ (x y : ℕ). x + y) (by w (omega arith))
         (ap (λ (x : ℕ). count 64 (bit x)) (words w (omega arith))
-        ∙ count-ext 64 (bit (tableOf 64 p)) (λ b. bit (2 ^ L - 1) b && q (w * 64 + b))
-        (λ b hb. bit-table 64 p b hb ∙ ap (λ (x : Bool). x && q (w * 64 + b)) (sym (bit-mask L b ∙ live-place n W L w b cut (omega arith) hb))))
+        ∙ count-ext 64 (bit (tableOf 64 p)) (λ b. bit live b && q (w * 64 + b))
+        (λ b hb. bit-table 64 p b hb ∙ ap (λ (x : Bool). x && q (w * 64 + b)) (sym (live-at f w b (omega arith) hb))))
 
 -- ## One place a gate
 
@@ -103,7 +95,7 @@ per-gate-ext m p q f = places-ext 40 (λ g. cond (ltb g m) (p g) 0) (λ g. cond 
     go g (no h) = rw (le-ltb g m (omega arith))
 
 -- the ones of each gate's words, where they are the words of its set
-pub counts-by : (n m W L : ℕ) (l : List ℕ) (q : ℕ → ℕ → Bool) → Cut n W L → ((g w : ℕ) → g < m → w < W → getD l (16 * g + w) 0 ≡ wordOf n (q g) w)
+pub counts-by : {n W live : ℕ} → Framed n W live → (m : ℕ) (l : List ℕ) (q : ℕ → ℕ → Bool) → ((g w : ℕ) → g < m → w < W → getD l (16 * g + w) 0 ≡ wordOf n (q g) w)
     → perGate m (λ g. onesIn l (16 * g) W) ≡ perGate m (λ g. count (2 ^ n) (q g))
-counts-by n m W L l q cut words =
-    per-gate-ext m (λ g. onesIn l (16 * g) W) (λ g. count (2 ^ n) (q g)) (λ g h. ones-are n W L (16 * g) l (q g) cut (λ w hw. words g w h hw))
+counts-by {n} {W} f m l q words =
+    per-gate-ext m (λ g. onesIn l (16 * g) W) (λ g. count (2 ^ n) (q g)) (λ g h. ones-are f (16 * g) l (q g) (λ w hw. words g w h hw))

@@ -14,7 +14,7 @@ use Rattle.bits.specs.Range.{_⇒_, every, any}
 use Rattle.bits.specs.Bit.{bit, tableOf, column, entryAt}
 use Rattle.bits.specs.Cut.{Framed}
 use Rattle.bits.proofs.Ranges.{and-assoc, and-true, any-ext, every-ext, bit-table, table-lt, table-ext}
-use Rattle.bits.proofs.Cuts.{every-not, table-or, table-none}
+use Rattle.bits.proofs.Cuts.{live-at, every-not, table-or, table-none}
 use Rattle.network.specs.Net.{Gate, Net, arity, gate, entry, values, entryOf, occurs, excluded}
 use Rattle.network.specs.DontCares.{odc, cdc, full}
 use Rattle.network.specs.Flat.{gateAt, netOf, wordOf}
@@ -24,7 +24,6 @@ use Rattle.network.proofs.Earlier.{gate-is}
 use Rattle.entries.proofs.By.{by-rest}
 use Rattle.simulate.specs.Simulated.{wordsAt, Rows}
 use Rattle.observability.specs.Odc.{OdcAt}
-use Rattle.observability.proofs.Words.{live-at}
 use Rattle.dontcares.specs.Tabled.{Tabled, TabledFrom}
 
 -- ## Entries, word after word
@@ -82,7 +81,7 @@ module _ (ks fs ts ex outs : List ℕ) (n m p g : ℕ) (hg : g < m) where
         → x ≡ tableOf (2 ^ getD ks g 0) (λ t. any count (delivers ks fs ts rows keep g t))
         → 2 ^ 2 ^ getD ks g 0 - 1 - x ≡ tableOf (2 ^ getD ks g 0) (λ t. not (any (2 ^ n) (λ y. test y && eqb (entryOf N (n + g) y) t)))
     left-out keep test x h e =
-        by-rest (2 ^ getD ks g 0) live (λ t y. test y && eqb (entryOf N (n + g) y) t) n count (framed .size) x (framed .cut) (framed .lives)
+        by-rest (2 ^ getD ks g 0) live (λ t y. test y && eqb (entryOf N (n + g) y) t) framed x
         (e ∙ table-ext (2 ^ getD ks g 0) (λ t. any count (delivers ks fs ts rows keep g t)) (λ t. any count (λ w. any 64 (λ b. here t w b)))
         (λ t ht. any-ext count (delivers ks fs ts rows keep g t) (λ w. any 64 (λ b. here t w b))
         (λ w hw. any-ext 64 (λ b. bit (getD keep w 0) b && eqb (entry (column (wordsAt rows w) b) (gateAt ks fs ts g)) t) (λ b. here t w b)

@@ -7,7 +7,7 @@ use lib.Dec.{ltb}
 use lib.Bits.{bitOr}
 use Rattle.bits.specs.Range.{any}
 use Rattle.bits.specs.Bit.{bit, tableOf}
-use Rattle.bits.specs.Cut.{Cut}
+use Rattle.bits.specs.Cut.{Framed}
 use Rattle.bits.proofs.Ranges.{any-ext, table-ext, table-lt}
 use Rattle.bits.proofs.Cuts.{any-cut, table-or, table-none, table-not}
 use Rattle.entries.specs.By.{tableBy}
@@ -29,11 +29,11 @@ module _ (K live : ℕ) (q : ℕ → ℕ → Bool) where
       ∙ ap (λ (k : ℕ). tableBy K live k q) (sym (add-one w))
 
   -- the entries that no pattern marks
-  pub by-rest : (n W L x : ℕ) → Cut n W L → ((b : ℕ) → bit live b ≡ ltb b L) → x ≡ tableBy K live W q → 2 ^ K - 1 - x ≡ tableOf K (λ t. not (any (2 ^ n) (q t)))
-  by-rest n W L x cut live-at e =
+  pub by-rest : {n W : ℕ} → Framed n W live → (x : ℕ) → x ≡ tableBy K live W q → 2 ^ K - 1 - x ≡ tableOf K (λ t. not (any (2 ^ n) (q t)))
+  by-rest {n} {W} f x e =
       ap (λ (y : ℕ). 2 ^ K - 1 - y) e
       ∙ table-not K (λ t. any W (λ v. any 64 (λ b. bit live b && q t (v * 64 + b))))
       ∙ table-ext K (λ t. not (any W (λ v. any 64 (λ b. bit live b && q t (v * 64 + b))))) (λ t. not (any (2 ^ n) (q t)))
-      (λ t h. ap not (any-ext W (λ v. any 64 (λ b. bit live b && q t (v * 64 + b))) (λ v. any 64 (λ b. ltb b L && q t (v * 64 + b)))
-      (λ v hv. any-ext 64 (λ b. bit live b && q t (v * 64 + b)) (λ b. ltb b L && q t (v * 64 + b)) (λ b hb. ap (λ (u : Bool). u && q t (v * 64 + b)) (live-at b)))
-      ∙ any-cut cut (q t)))
+      (λ t h. ap not (any-ext W (λ v. any 64 (λ b. bit live b && q t (v * 64 + b))) (λ v. any 64 (λ b. ltb b (f .size) && q t (v * 64 + b)))
+      (λ v hv. any-ext 64 (λ b. bit live b && q t (v * 64 + b)) (λ b. ltb b (f .size) && q t (v * 64 + b)) (λ b hb. ap (λ (u : Bool). u && q t (v * 64 + b)) (f .lives b)))
+      ∙ any-cut (f .cut) (q t)))

@@ -8,10 +8,10 @@ use native.Mathlib.Omega.{arith}
 use lib.Dec.{ltb}
 use lib.ListN.{length, getD, set, length-set}
 use lib.Seq.{getD-set-same, getD-set-other}
-use borrow.Author.Tests.{lt-ltb, ltb-true}
 use Rattle.bits.specs.Bit.{bit, tableOf}
 use Rattle.bits.specs.Cut.{Framed}
-use Rattle.bits.proofs.Ranges.{iff, table-ext}
+use Rattle.bits.proofs.Ranges.{table-ext}
+use Rattle.bits.proofs.Cuts.{live-at}
 use Rattle.bits.proofs.Logic.{not-not}
 use Rattle.network.specs.Net.{Net}
 use Rattle.network.specs.DontCares.{odc}
@@ -19,21 +19,13 @@ use Rattle.network.specs.Flat.{wordOf}
 use Rattle.observability.specs.Odc.{OdcAt}
 
 module _ {n count live : ℕ} (f : Framed n count live) where
-  -- a live place is a pattern
-  pub live-at : (w b : ℕ) → w < count → b < 64 → bit live b ≡ ltb (w * 64 + b) (2 ^ n)
-  live-at w b hw hb =
-      f .lives b
-      ∙ iff (ltb b (f .size)) (ltb (w * 64 + b) (2 ^ n))
-      (λ e. lt-ltb (w * 64 + b) (2 ^ n) (f .cut .pattern w b hw (ltb-true b (f .size) e)))
-      (λ e. lt-ltb b (f .size) (omega (arith, f .cut .place (w * 64 + b) (ltb-true (w * 64 + b) (2 ^ n) e))))
-
   -- a word of a set, from the places that are not in it
   pub set-word : (p : ℕ → Bool) (w x seen : ℕ) → w < count → ((b : ℕ) → b < 64 → bit seen b ≡ not (p (w * 64 + b)))
       → x ≡ tableOf 64 (λ b. bit live b && not (bit seen b)) → x ≡ wordOf n p w
   unfolding wordOf
   set-word p w x seen hw h e =
       e ∙ table-ext 64 (λ b. bit live b && not (bit seen b)) (λ b. ltb (w * 64 + b) (2 ^ n) && p (w * 64 + b))
-      (λ b hb. ap₂ (λ (c d : Bool). c && d) (live-at w b hw hb) (ap not (h b hb) ∙ not-not (p (w * 64 + b))))
+      (λ b hb. ap₂ (λ (c d : Bool). c && d) (live-at f w b hw hb) (ap not (h b hb) ∙ not-not (p (w * 64 + b))))
 
   -- words that are left as they are
   still : (N : Net) (old new : List ℕ) (g : ℕ) → ((q : ℕ) → q < 16 * g → getD new q 0 ≡ getD old q 0) → (h : ℕ) → h < g → OdcAt N old n h count → OdcAt N new n h count

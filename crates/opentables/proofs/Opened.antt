@@ -77,7 +77,7 @@ module _ (ks fs ts ex outs : List ℕ) (n m p : ℕ) where
       open-is : (g : ℕ) → g < m → openBy ks fs rows hs n live W g ≡ openTable N (n + g)
       unfolding openBy closedBy openTable closed
       open-is g hg =
-          by-rest (2 ^ getD ks g 0) live (closesAt ks fs rows hs n g) n W (f .size) (closedBy ks fs rows hs n live W g) (f .cut) (f .lives) refl
+          by-rest (2 ^ getD ks g 0) live (closesAt ks fs rows hs n g) f (closedBy ks fs rows hs n live W g) refl
           ∙ table-ext (2 ^ getD ks g 0) (λ t. not (any (2 ^ n) (closesAt ks fs rows hs n g t))) (λ t. not (any (2 ^ n) (comes g t)))
           (λ t ht. ap not (any-ext (2 ^ n) (closesAt ks fs rows hs n g t) (comes g t)
           (λ y hy.

@@ -10,13 +10,13 @@ use lib.Dec.{ltb}
 use lib.Bits.{bitAnd, bitOr}
 use lib.ListN.{length, getD, set, length-set}
 use lib.Seq.{ext-getD, getD-take, getD-set-same, getD-set-other}
-use borrow.Author.Tests.{ltb-true, lt-ltb}
 use Rattle.bits.specs.Range.{any, upFrom}
 use Rattle.bits.specs.Bit.{bit, column, differs}
 use Rattle.bits.specs.Cut.{Framed}
 use Rattle.bits.proofs.BitLaws.{bit-and, bit-or, bit-xor, bit-zero}
 use Rattle.bits.proofs.Logic.{clash, and-not}
-use Rattle.bits.proofs.Ranges.{iff, and-assoc, any-i, length-places, places-at, column-at}
+use Rattle.bits.proofs.Cuts.{live-at}
+use Rattle.bits.proofs.Ranges.{and-assoc, any-i, length-places, places-at, column-at}
 use Rattle.network.specs.declared.Session.{Session}
 use Rattle.network.specs.declared.Answer.the-variants.{Done}
 use Rattle.network.specs.Net.{Gate, Net, withTable, withGates, noGate, values, output, excluded, excludedFor, patternOrder, replaced}
@@ -70,10 +70,7 @@ kept : (ex : List ℕ) {n W live : ℕ} (inv w b : ℕ) → Framed n W live → 
 kept ex {n} inv w b f inv-at lw l d =
     let word : (w * 64 + b) / 64 ≡ w = omega arith in
     let place : (w * 64 + b) % 64 ≡ b = omega arith in
-    let inside : ltb (w * 64 + b) (2 ^ n) ≡ ltb b (f .size) = iff (ltb (w * 64 + b) (2 ^ n)) (ltb b (f .size))
-    (λ e. lt-ltb b (f .size) (rw place at (f .cut .place (w * 64 + b) (ltb-true (w * 64 + b) (2 ^ n) e))))
-    (λ e. lt-ltb (w * 64 + b) (2 ^ n) (f .cut .pattern w b lw (ltb-true b (f .size) e))) in
-    rw (bit-and, f .lives b, inv-at b l, inside, word, place) (and-assoc (ltb b (f .size)) (not (bit (getD ex w 0) b)) d)
+    rw (bit-and, live-at f w b lw l, inv-at b l, word, place) (and-assoc (ltb (w * 64 + b) (2 ^ n)) (not (bit (getD ex w 0) b)) d)
 
 module _ (ks fs ts : List ℕ) (n m : ℕ) (ex outs : List ℕ) (p : ℕ) where
   -- an output's word has its values
