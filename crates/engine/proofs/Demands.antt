@@ -32,7 +32,7 @@ use Rattle.network.proofs.Exchanges.{loaded-length, loaded-inputs, gate-e, open
 use Rattle.network.proofs.Reached.{loaded-fresh, loaded-shaped}
 use Rattle.network.proofs.Harm.{harm-done, harm-at}
 use Rattle.network.proofs.Demand3.{demand3-of, rule4-of}
-use Rattle.netfile.proofs.RoundTrip.{round-trip}
+use Rattle.roundtrip.proofs.RoundTrip.{round-trip}
 use Rattle.engine.specs.Written.{withLength, writtenOf}
 use Rattle.engine.specs.Demands.{Ends, Demand1, lone, Changes, Judged, Reached, Demand2, Demand3}
 use Rattle.engine.proofs.Outcomes.{file, ends, harm-only, tests-end, room-among, state-among, gate-among, table-among, closed-among, harm-among, read-among}

@@ -1,11 +1,3 @@
-pub mod WordsRead
-pub mod Laid
-pub mod GatesRead
-pub mod OutputsRead
-pub mod RoundTrip
-pub mod Prefix
-pub mod Lengths
-pub mod Truncation
 pub mod Steps
 pub mod Marks
 pub mod Records

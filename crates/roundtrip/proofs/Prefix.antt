@@ -14,8 +14,8 @@ use Rattle.network.specs.declared.Answer.the-variants.{Done, Refused}
 use Rattle.network.specs.Tests.{orElse, lengthTest, markTest, countTest}
 use Rattle.network.specs.Load.{started, withOutput, outputRecord, readOutputs, faninsIn, afterFanins, tableIn, withGate, gateTests, gateRecord, readGates, setBytes, excludedIn, withExcluded, isExcluded, excludedRecord, readBody, headerTests, headerRecord, readOf, loadOf}
 use Rattle.network.proofs.TestLaws.{clear-e, count-e, onward-ext}
-use Rattle.netfile.specs.RoundTrip.{Prefix}
-use Rattle.netfile.proofs.WordsRead.{set-bytes-most}
+use Rattle.roundtrip.specs.RoundTrip.{Prefix}
+use Rattle.roundtrip.proofs.WordsRead.{set-bytes-most}
 
 -- ## The front of a list
 

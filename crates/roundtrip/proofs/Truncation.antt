@@ -18,10 +18,10 @@ use Rattle.network.specs.Tests.{first, lengthTest, markTest}
 use Rattle.network.specs.Load.{started, loadDone, loadRefused, withOutput, outputTests, outputRecord, readOutputs, faninsIn, afterFanins, tableIn, withGate, gateTests, gateRecord, readGates, setBytes, excludedIn, withExcluded, isExcluded, excludedRecord, readBody, headerTests, headerRecord, readOf, loadOf}
 use Rattle.network.proofs.TestLaws.{clear-e, count-e, went}
 use Rattle.network.proofs.Reached.{load-read}
-use Rattle.netfile.specs.RoundTrip.{Truncation}
+use Rattle.roundtrip.specs.RoundTrip.{Truncation}
 use Rattle.netfile.proofs.Records.{whole-gate}
-use Rattle.netfile.proofs.Lengths.{outputs-end}
-use Rattle.netfile.proofs.Prefix.{drop-take, ltb-cut, mark-cut, output-cut, excluded-cut, header-cut, set-cut, set-next, gate-cut, gate-next, output-next}
+use Rattle.roundtrip.proofs.Lengths.{outputs-end}
+use Rattle.roundtrip.proofs.Prefix.{drop-take, ltb-cut, mark-cut, output-cut, excluded-cut, header-cut, set-cut, set-next, gate-cut, gate-next, output-next}
 
 -- a cut before place k, or not
 before : {P : Type 0} (N k : ℕ) → (N < k → P) → (k ≤ N → P) → P

@@ -11,7 +11,7 @@ use Rattle.network.specs.State.{outputFault}
 use Rattle.network.specs.Load.{outputTests, outputRecord, readOutputs}
 use Rattle.network.specs.Write.{outputBytes}
 use Rattle.network.proofs.TestLaws.{clear-i, short-i, mark-i}
-use Rattle.netfile.proofs.Laid.{layOutput}
+use Rattle.roundtrip.proofs.Laid.{layOutput}
 
 abbrev rest-of : ℕ → List ℕ → List ℕ
 rest-of x tail = 0x4E ∷ 0x4F ∷ x ∷ tail

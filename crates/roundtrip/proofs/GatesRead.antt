@@ -15,8 +15,8 @@ use Rattle.network.specs.Load.{faninsIn, afterFanins, tableIn, gateTests, gateR
 use Rattle.network.specs.Write.{bytesIn, gateBytes}
 use Rattle.network.proofs.TestLaws.{clear-i, short-i, mark-i, count-e, width-e}
 use Rattle.network.proofs.Valid.{GateValid}
-use Rattle.netfile.proofs.WordsRead.{number-bytes}
-use Rattle.netfile.proofs.Laid.{layGate}
+use Rattle.roundtrip.proofs.WordsRead.{number-bytes}
+use Rattle.roundtrip.proofs.Laid.{layGate}
 
 abbrev rest-of : ℕ → List ℕ → ℕ → List ℕ → List ℕ
 rest-of k fs tb tail = 0x4E ∷ 0x47 ∷ k ∷ (fs ++ bytesIn 2 tb) ++ tail

@@ -18,8 +18,8 @@ use Rattle.network.specs.Write.{bytesIn, wordBytes, allZero, headerBytes, exclu
 use Rattle.network.proofs.TestLaws.{clear-e, short-e, count-e, passed, went}
 use Rattle.network.proofs.Valid.{valid-e}
 use Rattle.network.proofs.Reached.{load-read}
-use Rattle.netfile.specs.RoundTrip.{WrittenLength, LoadedLength}
-use Rattle.netfile.proofs.WordsRead.{set-bytes-most}
+use Rattle.roundtrip.specs.RoundTrip.{WrittenLength, LoadedLength}
+use Rattle.roundtrip.proofs.WordsRead.{set-bytes-most}
 
 -- ## Written
 

@@ -20,11 +20,11 @@ use Rattle.network.proofs.Bytes.{length-words}
 use Rattle.network.proofs.TestLaws.{clear-i, short-i, mark-i, count-e}
 use Rattle.network.proofs.Valid.{Valid, valid-e}
 use Rattle.network.proofs.Reached.{load-back, opened-loaded, opened-current}
-use Rattle.netfile.specs.RoundTrip.{Returns, RoundTrip}
-use Rattle.netfile.proofs.Laid.{Laid, layGate, layOutput, lay-gate, lay-output, same-net}
-use Rattle.netfile.proofs.WordsRead.{within, holds, words-back, zeros, set-bytes-most}
-use Rattle.netfile.proofs.GatesRead.{gate-back}
-use Rattle.netfile.proofs.OutputsRead.{output-back}
+use Rattle.roundtrip.specs.RoundTrip.{Returns, RoundTrip}
+use Rattle.roundtrip.proofs.Laid.{Laid, layGate, layOutput, lay-gate, lay-output, same-net}
+use Rattle.roundtrip.proofs.WordsRead.{within, holds, words-back, zeros, set-bytes-most}
+use Rattle.roundtrip.proofs.GatesRead.{gate-back}
+use Rattle.roundtrip.proofs.OutputsRead.{output-back}
 
 -- a gate's bytes open no excluded record
 no-set : (s : Session) (c : ℕ) (tail : List ℕ) → 1 ≤ c → isExcluded (gatesBytes s c 0 ++ tail) ≡ false

@@ -1,0 +1,8 @@
+pub mod WordsRead
+pub mod Laid
+pub mod GatesRead
+pub mod OutputsRead
+pub mod RoundTrip
+pub mod Prefix
+pub mod Lengths
+pub mod Truncation
