@@ -199,7 +199,8 @@ static void compare_answers(Case *c, const Task *task) {
     same(!memcmp(&own, &c->answer, sizeof own), task->name);
 }
 
-static void prepare(Case *c, const Task *task) {
+/* whether the task has a question to ask of the network */
+static int prepare(Case *c, const Task *task) {
     our_load(c);
     base_load(&PLAIN, c), base_tables(&PLAIN, c);
     compare_sets(c);
@@ -207,6 +208,7 @@ static void prepare(Case *c, const Task *task) {
     compare_sets(c);
     c->gate = 0;
     if (task->question(c) && c->gate) compare_answers(c, task);
+    return task->question == any || c->gate;
 }
 
 /* ## Time */
@@ -251,8 +253,7 @@ static void row(int n, int m, int least, const Task *task) {
     seed = 1;
     for (int i = 0; i < CASES; i++) {
         make(&c, n, m, least, i % 2);
-        prepare(&c, task);
-        if (task->question != any && !c.gate) continue;
+        if (!prepare(&c, task)) continue;
         ours[count] = cost(task, 0, &c);
         tuned[count] = cost(task, &TUNED, &c);
         plain[count++] = cost(task, &PLAIN, &c);
@@ -263,6 +264,28 @@ static void row(int n, int m, int least, const Task *task) {
     fflush(stdout);
 }
 
+/* how many times as long the library takes at n = 10, m = 40 as in smaller networks, which are timed in turn with the large ones */
+static void growth(const Task *task) {
+    static const int FROM[][2] = {{6, 40}, {8, 40}, {10, 10}, {10, 20}};
+    static Case small, large;
+    printf("| %s |", task->name);
+    for (size_t s = 0; s < sizeof FROM / sizeof *FROM; s++) {
+        double ratios[CASES];
+        int count = 0;
+        seed = 1;
+        for (int i = 0; i < CASES; i++) {
+            make(&small, FROM[s][0], FROM[s][1], 1, i % 2);
+            make(&large, 10, 40, 1, i % 2);
+            if (!prepare(&small, task) || !prepare(&large, task)) continue;
+            double before = cost(task, 0, &small);
+            ratios[count++] = cost(task, 0, &large) / before;
+        }
+        printf(" %.1f |", count ? median(ratios, count) : 0);
+    }
+    printf("\n");
+    fflush(stdout);
+}
+
 int main(void) {
     static const int SIZES[][3] = {{10, 40, 1}, {10, 40, 4}, {10, 20, 1}, {10, 10, 1}, {8, 40, 1}, {6, 40, 1}, {4, 40, 1}};
     if (tusqirma_session_words() != SESSION) die("session words");
@@ -270,5 +293,7 @@ int main(void) {
     printf("|---|---|---|---|---|---|---|---|---|\n");
     for (size_t s = 0; s < sizeof SIZES / sizeof *SIZES; s++)
         for (size_t t = 0; t < sizeof TASKS / sizeof *TASKS; t++) row(SIZES[s][0], SIZES[s][1], SIZES[s][2], &TASKS[t]);
+    printf("\n| times as long at n = 10, m = 40 as at | n = 6, m = 40 | n = 8, m = 40 | n = 10, m = 10 | n = 10, m = 20 |\n|---|---|---|---|---|\n");
+    for (size_t t = 0; t < sizeof TASKS / sizeof *TASKS; t++) growth(&TASKS[t]);
     return 0;
 }
