@@ -5,16 +5,16 @@ use Prim.Native.Nat.{ℕ, _+_, _*_, _<_}
 use native.Mathlib.Omega.{arith}
 use lib.Bits.{bitAnd}
 use lib.ListN.{getD}
-use Rattle.bits.specs.Cut.{wordCount, Framed}
+use Rattle.bits.specs.Cut.{Framed}
 use Rattle.network.specs.declared.Session.{Session}
 use Rattle.network.specs.declared.Answer.the-variants.{Done}
 use Rattle.network.specs.Compatible.{compatible, compatibleCount}
-use Rattle.network.specs.Flat.{netOf, loadedNet, wordOf}
+use Rattle.network.specs.Flat.{netOf, loadedNet}
 use Rattle.network.specs.State.{stateFault}
 use Rattle.network.specs.Valid.{NetOk, OutputsOk}
 use Rattle.network.proofs.Valid.{net-ok, outputs-ok}
-use Rattle.simulate.specs.Simulated.{wordsAt}
-use Rattle.compatible.specs.Words.{CompatibleRows, LoadedRows, perGate, onesIn}
+use Rattle.simulate.specs.Simulated.{wordsAt, Rows}
+use Rattle.compatible.specs.Words.{SetRows, LoadedSets, LoadedRows, SetWords, perGate, onesIn}
 use Rattle.compatible.proofs.Stores.{counts-by}
 use Rattle.compatible.proofs.SetLaws.{set-words}
 
@@ -25,23 +25,22 @@ module _ (s : Session) (n m p : ℕ) (en : n ≡ s .n) (em : m ≡ s .m) (ep : p
       let o = outputs-ok s e in
       rw (en, em, ep) (N, record { most = o .most; each = λ i h. omega (arith, o .each i h, N .ins, N .most) })
 
-  pub rows-are : {rows hs : List ℕ} {count live : ℕ} → Framed n count live
-      → CompatibleRows (s .arity) (s .fanins) (s .loaded) (s .excluded) (s .outputs) rows hs n m p count → LoadedRows s rows hs count live
-  rows-are f r = record { frame = rw en at f; found = rw (en, em, ep) at r }
+  pub rows-are : {rows hs : List ℕ} {count live : ℕ} → Framed n count live → Rows (s .arity) (s .fanins) (s .loaded) rows n m count
+      → SetRows (netOf (s .arity) (s .fanins) (s .loaded) n m (s .excluded) (s .outputs) p) hs (n + m) count → LoadedRows s rows hs count live
+  unfolding loadedNet
+  rows-are f v r = record { values = rw (en, em) at v; sets = record { frame = rw en at f; rows = rw (en, em, ep) at r } }
 
 module _ (s : Session) (n m : ℕ) (en : n ≡ s .n) (em : m ≡ s .m) where
   -- H of each gate, by the rows
-  pub sets-are : {rows hs : List ℕ} {count live : ℕ} → stateFault s ≡ Done → LoadedRows s rows hs count live
-      → (l : List ℕ) → ((g w : ℕ) → g < m → w < count → getD l (16 * g + w) 0 ≡ bitAnd live (getD (wordsAt hs w) (n + g) 0))
-      → (g w : ℕ) → g < s .m → w < wordCount (s .n) → getD l (16 * g + w) 0 ≡ wordOf (s .n) (compatible (loadedNet s) (s .n + g)) w
+  pub sets-are : {hs : List ℕ} {count live : ℕ} → stateFault s ≡ Done → LoadedSets s hs count live
+      → (l : List ℕ) → ((g w : ℕ) → g < m → w < count → getD l (16 * g + w) 0 ≡ bitAnd live (getD (wordsAt hs w) (n + g) 0)) → SetWords s l
   unfolding loadedNet
-  sets-are e r l words g w hg hw =
-      set-words (s .arity) (s .fanins) (s .loaded) (s .excluded) (s .outputs) (s .n) (s .m) (s .p) (net-ok s e) (r .frame) (r .found) l
+  sets-are {hs} e r l words g w hg hw =
+      set-words (s .arity) (s .fanins) (s .loaded) (s .excluded) (s .outputs) (s .n) (s .m) (s .p) (net-ok s e) hs (r .frame) (r .rows) l
       (rw (en, em) at words) g w hg (omega (arith, r .frame .words))
 
   -- and how many patterns it has
-  pub counts-are : {count live : ℕ} (l : List ℕ) → Framed n count live
-      → ((g w : ℕ) → g < s .m → w < wordCount (s .n) → getD l (16 * g + w) 0 ≡ wordOf (s .n) (compatible (loadedNet s) (s .n + g)) w)
+  pub counts-are : {count live : ℕ} (l : List ℕ) → Framed n count live → SetWords s l
       → perGate m (λ g. onesIn l (16 * g) count) ≡ perGate (s .m) (λ g. compatibleCount (loadedNet s) (s .n + g))
   unfolding compatibleCount loadedNet netOf
   counts-are {count} {live} l f words =

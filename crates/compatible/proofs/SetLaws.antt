@@ -22,7 +22,7 @@ use Rattle.network.specs.Valid.{NetOk}
 use Rattle.network.proofs.Laws.{entry-ext, length-gates}
 use Rattle.network.proofs.Earlier.{gates-at}
 use Rattle.simulate.specs.Simulated.{Simulated, wordsAt}
-use Rattle.compatible.specs.Words.{outputsLeave, CompatibleRows}
+use Rattle.compatible.specs.Words.{outputsLeave, SetRows}
 use Rattle.compatible.proofs.Stores.{word-is}
 
 -- rule 5 looks at the values through the entries of the gates alone
@@ -89,9 +89,9 @@ module _ (ks fs ts ex outs : List ℕ) (n m p : ℕ) where
 
     -- ## H of each gate in all words
 
-    pub set-words : {rows hs : List ℕ} {count live : ℕ} → Framed n count live → CompatibleRows ks fs ts ex outs rows hs n m p count
+    pub set-words : (hs : List ℕ) {count live : ℕ} → Framed n count live → SetRows N hs (n + m) count
         → (l : List ℕ) → ((g w : ℕ) → g < m → w < count → getD l (16 * g + w) 0 ≡ bitAnd live (getD (wordsAt hs w) (n + g) 0))
         → (g w : ℕ) → g < m → w < count → getD l (16 * g + w) 0 ≡ wordOf n (compatible N (n + g)) w
-    set-words {rows} {hs} {count} {live} f found l words g w hg hw =
+    set-words hs f found l words g w hg hw =
         words g w hg hw
-        ∙ word-is f w (getD (wordsAt hs w) (n + g) 0) (compatible N (n + g)) hw (λ b hb. found .sets w hw b hb (n + g) (omega arith))
+        ∙ word-is f w (getD (wordsAt hs w) (n + g) 0) (compatible N (n + g)) hw (λ b hb. found w hw b hb (n + g) (omega arith))

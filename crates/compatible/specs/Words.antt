@@ -7,10 +7,11 @@ use lib.Dec.{eqb, ltb}
 use lib.ListN.{getD}
 use Rattle.bits.specs.Range.{_⇒_, every, count, places}
 use Rattle.bits.specs.Bit.{bit}
-use Rattle.bits.specs.Cut.{Framed}
+use Rattle.bits.specs.Cut.{wordCount, Framed}
 use Rattle.network.specs.declared.Session.{Session}
+use Rattle.network.specs.Net.{Net}
 use Rattle.network.specs.Compatible.{compatible}
-use Rattle.network.specs.Flat.{netOf}
+use Rattle.network.specs.Flat.{loadedNet, wordOf}
 use Rattle.simulate.specs.Simulated.{wordsAt, Rows}
 
 -- what the first p outputs leave of the set of signal s: e tells whether the pattern is excluded
@@ -21,16 +22,24 @@ outputsLeave outs p e s = every p (λ i. eqb (getD outs i 0) s ⇒ e)
 abbrev pub edge : (fs es : List ℕ) (g h b e s r : ℕ) → Bool
 edge fs es g h b e s r = eqb (getD fs (6 * g + r) 0) s ⇒ (bit h b || bit (getD es (6 * g + r) 0) e)
 
--- the first `len` words of the values of all signals, and of their compatible sets
-pub record CompatibleRows (ks fs ts ex outs rows hs : List ℕ) (n m p len : ℕ) : Type 0 where
-  pub values : Rows ks fs ts rows n m len
-  pub sets : (w : ℕ) → w < len → (b : ℕ) → b < 64 → (s : ℕ) → s < n + m
-      → bit (getD (wordsAt hs w) s 0) b ≡ compatible (netOf ks fs ts n m ex outs p) s (w * 64 + b)
+-- the first `len` words of the compatible sets of the first c signals of N
+abbrev pub SetRows : (N : Net) (hs : List ℕ) (c len : ℕ) → Type 0
+SetRows N hs c len = (w : ℕ) → w < len → (b : ℕ) → b < 64 → (s : ℕ) → s < c → bit (getD (wordsAt hs w) s 0) b ≡ compatible N s (w * 64 + b)
 
--- of a session's loaded network: the rows, where the patterns of its inputs take `count` words, of which the places of `live` are patterns
-pub record LoadedRows (s : Session) (rows hs : List ℕ) (count live : ℕ) : Type 0 where
+-- of a session's loaded network, where the patterns of its inputs take `count` words, of which the places of `live` are patterns:
+-- the rows of the compatible sets
+pub record LoadedSets (s : Session) (hs : List ℕ) (count live : ℕ) : Type 0 where
   pub frame : Framed (s .n) count live
-  pub found : CompatibleRows (s .arity) (s .fanins) (s .loaded) (s .excluded) (s .outputs) rows hs (s .n) (s .m) (s .p) count
+  pub rows : SetRows (loadedNet s) hs (s .n + s .m) count
+
+-- and those of the values
+pub record LoadedRows (s : Session) (rows hs : List ℕ) (count live : ℕ) : Type 0 where
+  pub values : Rows (s .arity) (s .fanins) (s .loaded) rows (s .n) (s .m) count
+  pub sets : LoadedSets s hs count live
+
+-- word w of the compatible set of gate g of the loaded network at place 16 g + w
+abbrev pub SetWords : (s : Session) (l : List ℕ) → Type 0
+SetWords s l = (g w : ℕ) → g < s .m → w < wordCount (s .n) → getD l (16 * g + w) 0 ≡ wordOf (s .n) (compatible (loadedNet s) (s .n + g)) w
 
 -- in 40 places, one for each of m gates: what p says, and 0 past the last
 abbrev pub perGate : (m : ℕ) (p : ℕ → ℕ) → List ℕ

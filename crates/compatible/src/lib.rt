@@ -3,12 +3,11 @@ ghost use mathlib.Core.Path.{_≡_};
 ghost use Prim.Native.Nat.{ℕ, _+_, _*_, _<_, _≤_};
 ghost use lib.Bits.{bitAnd};
 ghost use lib.ListN.{length, getD};
-ghost use Rattle.bits.specs.Cut.{wordCount};
-ghost use Rattle.network.specs.Compatible.{compatible, compatibleCount};
-ghost use Rattle.network.specs.Flat.{loadedNet, wordOf};
+ghost use Rattle.network.specs.Compatible.{compatibleCount};
+ghost use Rattle.network.specs.Flat.{loadedNet};
 ghost use Rattle.network.specs.State.{stateFault};
 ghost use Rattle.simulate.specs.Simulated.{wordsAt};
-ghost use Rattle.compatible.specs.Words.{LoadedRows, perGate, onesIn};
+ghost use Rattle.compatible.specs.Words.{LoadedSets, LoadedRows, SetWords, perGate, onesIn};
 use bits::Frame;
 use network::Answer;
 use network::Session;
@@ -61,10 +60,13 @@ fn store_word(n: usize, m: usize, hs: &[u64; 800], live: u64, w: usize, sets: &m
 }
 
 // H of each gate, sixteen words a gate, by the rows of H.
-pub fn sets_from(n: usize, m: usize, hs: &[u64; 800], live: u64, count: usize) -> [u64; 640]
-    requires { ⌜ (n ≤ 10) × (m ≤ 40) × (count ≤ 16) ⌝ }
-    ensures { λ l. ⌜ ((g w : ℕ) → g < m → w < count → getD l (16 * g + w) 0 ≡ bitAnd live (getD (wordsAt (now (hs .entry)) w) (n + g) 0)) ⌝ }
+pub fn sets_from(s: Session, hs: &[u64; 800], live: u64, count: usize) -> [u64; 640]
+    requires { ⌜ stateFault s ≡ Answer.Done ⌝ }
+    requires { ⌜ LoadedSets s (now hs) count live ⌝ }
+    ensures { λ l. ⌜ SetWords s l ⌝ }
 {
+    let n = network::place(s.n);
+    let m = network::place(s.m);
     let mut sets = [0u64; 640];
     let mut w = 0;
     while w < count {
@@ -89,11 +91,15 @@ fn ones_in(sets: &[u64; 640], at: usize, most: usize) -> u64
     sum
 }
 
-// The ones of each gate's first words, as many as most says.
-pub fn counts_of(m: usize, most: usize, sets: &[u64; 640]) -> [u64; 40]
-    requires { ⌜ (m ≤ 40) × (most ≤ 16) ⌝ }
-    ensures { λ r. ⌜ r ≡ perGate m (λ g. onesIn (now (sets .entry)) (16 * g) most) ⌝ }
+// How many patterns the compatible set of each gate has: the ones of each of its words, added.
+pub fn counts_of(s: Session, sets: &[u64; 640]) -> [u64; 40]
+    requires { ⌜ stateFault s ≡ Answer.Done ⌝ }
+    requires { ⌜ SetWords s (now sets) ⌝ }
+    ensures { λ r. ⌜ r ≡ perGate (s .m) (λ g. compatibleCount (loadedNet s) (s .n + g)) ⌝ }
 {
+    let m = network::place(s.m);
+    let f = bits::frame_of(network::place(s.n));
+    let most = f.count;
     let mut counts = [0u64; 40];
     let mut g = 0;
     while g < m {
@@ -104,26 +110,22 @@ pub fn counts_of(m: usize, most: usize, sets: &[u64; 640]) -> [u64; 40]
     counts
 }
 
-// The compatible sets of the loaded network: word w of gate g at place 16 * g + w.
+// The compatible sets of the loaded network.
 pub fn compatible_sets(s: Session) -> [u64; 640]
     requires { ⌜ stateFault s ≡ Answer.Done ⌝ }
-    ensures { λ l. ⌜ ((g w : ℕ) → g < s .m → w < wordCount (s .n) → getD l (16 * g + w) 0 ≡ wordOf (s .n) (compatible (loadedNet s) (s .n + g)) w) ⌝ }
+    ensures { λ l. ⌜ SetWords s l ⌝ }
 {
     let mut rows = [0u64; 800];
     let mut hs = [0u64; 800];
     let f = loaded_rows(s, &mut rows, &mut hs);
-    let n = network::place(s.n);
-    let m = network::place(s.m);
-    sets_from(n, m, &hs, f.live, f.count)
+    sets_from(s, &hs, f.live, f.count)
 }
 
-// How many patterns the compatible set of each gate has: the ones of each word, added.
+// How many patterns each of them has.
 pub fn counts(s: Session) -> [u64; 40]
     requires { ⌜ stateFault s ≡ Answer.Done ⌝ }
     ensures { λ r. ⌜ r ≡ perGate (s .m) (λ g. compatibleCount (loadedNet s) (s .n + g)) ⌝ }
 {
-    let m = network::place(s.m);
-    let f = bits::frame_of(network::place(s.n));
     let sets = compatible_sets(s);
-    counts_of(m, f.count, &sets)
+    counts_of(s, &sets)
 }

@@ -9,10 +9,10 @@ ghost use Rattle.bits.specs.Range.{every};
 ghost use Rattle.bits.specs.Bit.{bit, column};
 ghost use Rattle.network.specs.Net.{entry};
 ghost use Rattle.network.specs.Compatible.{compatibleFrom};
-ghost use Rattle.network.specs.Flat.{gateAt, gatesOf};
+ghost use Rattle.network.specs.Flat.{gateAt, gatesOf, netOf};
 ghost use Rattle.network.specs.Valid.{GateOk, NetOk, OutputsOk};
-ghost use Rattle.simulate.specs.Simulated.{wordsAt};
-ghost use Rattle.compatible.specs.Words.{outputsLeave, edge, CompatibleRows};
+ghost use Rattle.simulate.specs.Simulated.{wordsAt, Rows};
+ghost use Rattle.compatible.specs.Words.{outputsLeave, edge, SetRows};
 
 // The words of signal s.
 fn row_of(rows: &[u64; 800], s: usize) -> [u64; 16]
@@ -131,7 +131,7 @@ pub fn compatible_rows(
     requires { ⌜ NetOk (now arity) (now fanins) n m ⌝ }
     requires { ⌜ OutputsOk (now outs) p 50 ⌝ }
     requires { ⌜ (count ≤ 16) × (length (now rows) ≡ 800) ⌝ }
-    ensures { λ _. ⌜ CompatibleRows (now (arity .entry)) (now (fanins .entry)) (now (tables .entry)) (now (excluded .entry)) (now (outs .entry)) (now (rows .exit)) (now (hs .exit)) n m p count ⌝ }
+    ensures { λ _. ⌜ Rows (now (arity .entry)) (now (fanins .entry)) (now (tables .entry)) (now (rows .exit)) n m count × SetRows (netOf (now (arity .entry)) (now (fanins .entry)) (now (tables .entry)) n m (now (excluded .entry)) (now (outs .entry)) p) (now (hs .exit)) (n + m) count ⌝ }
 {
     simulate::rows(n, m, arity, fanins, tables, count, rows);
     intersected(

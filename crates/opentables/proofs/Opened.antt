@@ -19,9 +19,9 @@ use Rattle.network.specs.Valid.{NetOk}
 use Rattle.network.proofs.Laws.{arity-at, entry-at, length-gates}
 use Rattle.network.proofs.Earlier.{gate-is}
 use Rattle.network.proofs.Valid.{net-ok}
-use Rattle.simulate.specs.Simulated.{Simulated, wordsAt}
+use Rattle.simulate.specs.Simulated.{Simulated, wordsAt, Rows}
 use Rattle.entries.proofs.By.{by-rest}
-use Rattle.compatible.specs.Words.{CompatibleRows, LoadedRows, perGate}
+use Rattle.compatible.specs.Words.{SetRows, LoadedRows, perGate}
 use Rattle.compatible.proofs.SetLaws.{value-at}
 use Rattle.compatible.proofs.Stores.{per-gate-ext}
 use Rattle.opentables.specs.Closed.{closes, closesAt, closedBy, openBy}
@@ -73,7 +73,7 @@ module _ (ks fs ts ex outs : List ℕ) (n m p : ℕ) where
 
     -- ## All words
 
-    module _ {rows hs : List ℕ} {W live : ℕ} (f : Framed n W live) (found : CompatibleRows ks fs ts ex outs rows hs n m p W) where
+    module _ (rows hs : List ℕ) {W live : ℕ} (f : Framed n W live) (values : Rows ks fs ts rows n m W) (sets : SetRows N hs (n + m) W) where
       open-is : (g : ℕ) → g < m → openBy ks fs rows hs n live W g ≡ openTable N (n + g)
       unfolding openBy closedBy openTable closed
       open-is g hg =
@@ -85,7 +85,7 @@ module _ (ks fs ts ex outs : List ℕ) (n m p : ℕ) where
           let b = y % 64 in
           let hw = f .cut .word y hy in
           let q : w * 64 + b ≡ y = omega arith in
-          closes-is (wordsAt rows w) w (found .values w hw) b (omega arith) (wordsAt hs w) (found .sets w hw b (omega arith)) g hg t
+          closes-is (wordsAt rows w) w (values w hw) b (omega arith) (wordsAt hs w) (sets w hw b (omega arith)) g hg t
           ∙ ap (comes g t) q)))
           ∙ ap₂ (λ (k j : ℕ). tableOf (2 ^ k) (λ t. not (any (2 ^ j) (comes g t)))) (sym (ap arity (gate-is ks fs ts ex outs n m p g hg) ∙ arity-at ks fs ts g)) inputs-is
 
@@ -98,5 +98,5 @@ pub opens-are : (s : Session) (n m : ℕ) → n ≡ s .n → m ≡ s .m → stat
 unfolding openTables loadedNet netOf
 opens-are s n m en em e {rows} {hs} {count} {live} r =
     ap₂ (λ (i k : ℕ). perGate k (openBy (s .arity) (s .fanins) rows hs i live count)) en em
-    ∙ opened (s .arity) (s .fanins) (s .loaded) (s .excluded) (s .outputs) (s .n) (s .m) (s .p) (net-ok s e) (r .frame) (r .found)
+    ∙ opened (s .arity) (s .fanins) (s .loaded) (s .excluded) (s .outputs) (s .n) (s .m) (s .p) (net-ok s e) rows hs (r .sets .frame) (r .values) (r .sets .rows)
     ∙ ap (λ (k : ℕ). perGate k (λ g. openTable (loadedNet s) (s .n + g))) (sym (length-gates (s .arity) (s .fanins) (s .loaded) (s .m)))

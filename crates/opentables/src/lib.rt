@@ -4,10 +4,10 @@ ghost use Prim.Native.Nat.{_+_, _*_, _<_, _≤_};
 ghost use Rattle.network.specs.Compatible.{compatibleCount, openTables};
 ghost use Rattle.network.specs.Flat.{loadedNet};
 ghost use Rattle.network.specs.State.{stateFault};
-ghost use Rattle.network.specs.Valid.{GateOk, NetOk};
+ghost use Rattle.network.specs.Valid.{GateOk};
 ghost use Rattle.simulate.specs.Simulated.{wordsAt};
-ghost use Rattle.compatible.specs.Words.{perGate};
-ghost use Rattle.opentables.specs.Closed.{closedIn, closedBy, openBy};
+ghost use Rattle.compatible.specs.Words.{LoadedRows, perGate};
+ghost use Rattle.opentables.specs.Closed.{closedIn, closedBy};
 use network::Answer;
 use network::Session;
 
@@ -60,33 +60,28 @@ fn closed_by(
     acc
 }
 
-// The open tables of all gates, by the rows of the values and of H.
-fn open_from(
-    n: usize,
-    m: usize,
-    arity: &[u8; 40],
-    fanins: &[u8; 240],
-    rows: &[u64; 800],
-    hs: &[u64; 800],
-    live: u64,
-    count: usize,
-) -> [u64; 40]
-    requires { ⌜ NetOk (now arity) (now fanins) n m ⌝ }
-    requires { ⌜ count ≤ 16 ⌝ }
-    ensures { λ r. ⌜ r ≡ perGate m (openBy (now (arity .entry)) (now (fanins .entry)) (now (rows .entry)) (now (hs .entry)) n live count) ⌝ }
+// The open tables of the loaded network, by the rows of the values and of H.
+fn open_from(s: Session, rows: &[u64; 800], hs: &[u64; 800], live: u64, count: usize) -> [u64; 40]
+    requires { ⌜ stateFault s ≡ Answer.Done ⌝ }
+    requires { ⌜ LoadedRows s (now rows) (now hs) count live ⌝ }
+    ensures { λ r. ⌜ r ≡ openTables (loadedNet s) ⌝ }
 {
+    let n = network::place(s.n);
+    let m = network::place(s.m);
+    let arity = s.arity;
+    let fanins = s.fanins;
     let mut opens = [0u64; 40];
     let mut g = 0;
     while g < m {
         let c = entries::entry_count(network::place(arity[g]));
-        let v = bits::rest(c, closed_by(n, arity, fanins, rows, hs, live, count, g));
+        let v = bits::rest(c, closed_by(n, &arity, &fanins, rows, hs, live, count, g));
         opens[g] = v;
         g += 1;
     }
     opens
 }
 
-// The open tables of the loaded network.
+// The same from nothing.
 pub fn open_tables(s: Session) -> [u64; 40]
     requires { ⌜ stateFault s ≡ Answer.Done ⌝ }
     ensures { λ r. ⌜ r ≡ openTables (loadedNet s) ⌝ }
@@ -94,11 +89,7 @@ pub fn open_tables(s: Session) -> [u64; 40]
     let mut rows = [0u64; 800];
     let mut hs = [0u64; 800];
     let f = compatible::loaded_rows(s, &mut rows, &mut hs);
-    let n = network::place(s.n);
-    let m = network::place(s.m);
-    let arity = s.arity;
-    let fanins = s.fanins;
-    open_from(n, m, &arity, &fanins, &rows, &hs, f.live, f.count)
+    open_from(s, &rows, &hs, f.live, f.count)
 }
 
 // The open table of each gate, and how many patterns its compatible set has.
@@ -115,14 +106,8 @@ pub fn open_and_counts(s: Session) -> OpenCounts
     let mut rows = [0u64; 800];
     let mut hs = [0u64; 800];
     let f = compatible::loaded_rows(s, &mut rows, &mut hs);
-    let n = network::place(s.n);
-    let m = network::place(s.m);
-    let arity = s.arity;
-    let fanins = s.fanins;
-    let live = f.live;
-    let count = f.count;
-    let opens = open_from(n, m, &arity, &fanins, &rows, &hs, live, count);
-    let sets = compatible::sets_from(n, m, &hs, live, count);
-    let counts = compatible::counts_of(m, count, &sets);
+    let opens = open_from(s, &rows, &hs, f.live, f.count);
+    let sets = compatible::sets_from(s, &hs, f.live, f.count);
+    let counts = compatible::counts_of(s, &sets);
     OpenCounts { opens, counts }
 }

@@ -36,7 +36,7 @@ returns c =
     let p = f .before .before .before .before .before .before in
     let m = p .before in
     let n = m .before in
-    rows-are (n .before .args .s) _ _ _ (n .place .ensures) (m .place2 .ensures) (p .place3 .ensures) (f .frame-of .ensures) (c .compatible-rows .ensures)
+    rows-are (n .before .args .s) _ _ _ (n .place .ensures) (m .place2 .ensures) (p .place3 .ensures) (f .frame-of .ensures) (c .compatible-rows .ensures .0) (c .compatible-rows .ensures .1)
 
 pub loaded-rows-spec : {M : Type 1} → statement M
 loaded-rows-spec =

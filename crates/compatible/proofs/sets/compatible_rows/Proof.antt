@@ -68,13 +68,12 @@ returns c =
     let r = c .before .before .before .before .before in
     let s = r .before .before in
     let a = s .args in
-    let e : l .i ≡ a .n = omega arith in
-    record {
-      values = r .rows .ensures .1;
-      sets = λ w hw b hb x hx.
+    let e : l .i ≡ a .n = omega arith in (
+      r .rows .ensures .1,
+      λ w hw b hb x hx.
           (rw e at (l .inv .2 w hw b hb x (omega (arith, s .pre .0 .ins, s .pre .0 .most))))
-          ∙ compatible-is (now (a .arity)) (now (a .fanins)) (now (a .tables)) (now (a .excluded)) (now (a .outs)) (a .n) (a .m) (a .p) (s .pre .0) _ w (r .rows .ensures .1 w hw) b hb x;
-    }
+          ∙ compatible-is (now (a .arity)) (now (a .fanins)) (now (a .tables)) (now (a .excluded)) (now (a .outs)) (a .n) (a .m) (a .p) (s .pre .0) _ w (r .rows .ensures .1 w hw) b hb x,
+    )
 
 pub compatible-rows-spec : {M : Type 1} → statement M
 compatible-rows-spec =
