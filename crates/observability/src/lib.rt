@@ -106,11 +106,11 @@ pub fn odc_words(
     requires { ⌜ Framed n count live × (e ≤ m) × (length (now odc) ≡ 640) ⌝ }
     ensures { λ _. ⌜ ((ex : List ℕ) (g : ℕ) → a ≤ g → g < e → OdcAt (netOf (now (arity .entry)) (now (fanins .entry)) (now (tables .entry)) n m ex (now (outs .entry)) p) (now (odc .exit)) n g count) ⌝ }
 {
-    let masks = simulate::fanin_masks(n, m, arity, fanins);
+    let masks = incremental::fanin_masks(n, m, arity, fanins);
     let mut other = *rows;
     let mut g = a;
     while g < e {
-        simulate::invert(n, m, arity, fanins, *tables, &masks, count, g, &mut other);
+        incremental::invert(n, m, arity, fanins, *tables, &masks, count, g, &mut other);
         let seen = observed(p, outs, rows, &other, count);
         store_odc(odc, &seen, live, count, g);
         restore(&mut other, rows, n + g, n + m);

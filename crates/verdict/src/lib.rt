@@ -133,7 +133,7 @@ fn network_harm(
     let mut xs = [0u64; 800];
     simulate::rows(n, m, arity, fanins, loaded, words, &mut xs);
     let mut ys = xs;
-    simulate::update(n, m, arity, fanins, loaded, tables, words, &mut ys);
+    incremental::update(n, m, arity, fanins, loaded, tables, words, &mut ys);
     let mut w = 0;
     while w < words {
         let keep = live & bits::invert(excluded[w]);

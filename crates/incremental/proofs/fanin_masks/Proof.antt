@@ -1,15 +1,15 @@
--- `simulate::fanin_masks` meets its contract. Assumes nothing.
+-- `incremental::fanin_masks` meets its contract. Assumes nothing.
 use borrow.Author.Needs.{needs}
 use mathlib.Core.Path.{_≡_, refl}
 use Prim.Native.Nat.{_-_, _≤_}
 use native.Mathlib.Omega.{arith}
 use lib.ListN.{length, length-set}
 use denote.Ref.{now}
-use Rattle.simulate.specs.Simulated.{Masked}
+use Rattle.incremental.specs.Updated.{Masked}
 use Rattle.simulate.proofs.Laws.{later}
-use Rattle.simulate.proofs.Updates.{masked-step}
-use Rattle.simulate.proofs.fanin_masks.Statement.{statement}
-use Rattle.simulate.proofs.fanin_masks.Tie as tie
+use Rattle.incremental.proofs.Updates.{masked-step}
+use Rattle.incremental.proofs.fanin_masks.Statement.{statement}
+use Rattle.incremental.proofs.fanin_masks.Tie as tie
 
 abbrev Inv-loop : tie.InvT-loop
 Inv-loop n m arity fanins l₀ g₀ l g =

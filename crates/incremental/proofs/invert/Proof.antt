@@ -1,4 +1,4 @@
--- `simulate::invert` meets its contract. Assumes nothing.
+-- `incremental::invert` meets its contract. Assumes nothing.
 use borrow.Author.Needs.{needs}
 use mathlib.Core.Path.{_≡_, sym, ap, _∙_}
 use Prim.Native.Nat.{ℕ, _+_, _*_, _^_, _≤_}
@@ -8,9 +8,9 @@ use lib.Pow.{pow-mono}
 use lib.Seq.{getD-set-same, getD-set-other}
 use denote.Ref.{now}
 use Rattle.bits.specs.Bit.{bit}
-use Rattle.simulate.proofs.Updates.{complemented}
-use Rattle.simulate.proofs.invert.Statement.{statement}
-use Rattle.simulate.proofs.invert.Tie as tie
+use Rattle.incremental.proofs.Updates.{complemented}
+use Rattle.incremental.proofs.invert.Statement.{statement}
+use Rattle.incremental.proofs.invert.Tie as tie
 
 long : (c : tie.Start) → length (c .args .t5) ≡ 40
 long c = search needs

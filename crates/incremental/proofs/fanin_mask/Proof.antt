@@ -1,4 +1,4 @@
--- `simulate::fanin_mask` meets its contract. Assumes nothing.
+-- `incremental::fanin_mask` meets its contract. Assumes nothing.
 use borrow.Author.Needs.{needs}
 use mathlib.Core.Path.{_≡_, ap, _∙_}
 use mathlib.Core.Bool.{true}
@@ -7,9 +7,9 @@ use native.Mathlib.Omega.{arith}
 use lib.ListN.{getD}
 use denote.Ref.{now}
 use Rattle.bits.specs.Bit.{bit}
-use Rattle.simulate.proofs.Updates.{mask-step}
-use Rattle.simulate.proofs.fanin_mask.Statement.{statement}
-use Rattle.simulate.proofs.fanin_mask.Tie as tie
+use Rattle.incremental.proofs.Updates.{mask-step}
+use Rattle.incremental.proofs.fanin_mask.Statement.{statement}
+use Rattle.incremental.proofs.fanin_mask.Tie as tie
 
 abbrev Inv-loop : tie.InvT-loop
 Inv-loop arity fanins g k mask₀ r₀ mask r =

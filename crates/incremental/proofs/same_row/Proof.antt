@@ -1,4 +1,4 @@
--- `simulate::same_row` meets its contract. Assumes nothing.
+-- `incremental::same_row` meets its contract. Assumes nothing.
 use borrow.Author.Needs.{needs}
 use mathlib.Core.Path.{_≡_, refl, sym, subst, _∙_}
 use Prim.Native.Nat.{ℕ, _+_, _-_, _≤_, _<_}
@@ -7,10 +7,10 @@ use native.Mathlib.Omega.{arith}
 use lib.ListN.{getD}
 use denote.Ref.{now}
 use Rattle.bits.proofs.Logic.{clash}
 use Rattle.simulate.specs.Simulated.{wordsAt}
 use Rattle.simulate.proofs.RowLaws.{words-at}
-use Rattle.simulate.proofs.same_row.Statement.{statement}
-use Rattle.simulate.proofs.same_row.Tie as tie
+use Rattle.incremental.proofs.same_row.Statement.{statement}
+use Rattle.incremental.proofs.same_row.Tie as tie
 
 filled : (P : ℕ → Type 0) (i : ℕ) → ((q : ℕ) → q < i → P q) → P i → (q : ℕ) → q < i + 1 → P q
 filled P i so-far here q h = go (ℕ-discrete q i)

@@ -22,9 +22,10 @@ use Rattle.network.specs.DontCares.{runInverted}
 use Rattle.network.specs.Flat.{faninsAt, gateAt, gatesOf}
 use Rattle.network.specs.Valid.{GateOk}
 use Rattle.network.proofs.Laws.{run-snoc, length-run, entry-at, entry-lt, entry-take, entry-ext, gates-suc, length-gates, table-at}
-use Rattle.simulate.specs.Simulated.{wordsAt, Rows, Masked, Updated}
+use Rattle.simulate.specs.Simulated.{wordsAt, Rows}
+use Rattle.incremental.specs.Updated.{Masked, Updated}
 use Rattle.simulate.proofs.Laws.{gate-step}
 use Rattle.simulate.proofs.RowLaws.{words-long}
 
 -- ## Runs
 

@@ -1,13 +1,14 @@
--- `simulate::update_from` meets its contract. Assumes nothing.
+-- `incremental::update_from` meets its contract. Assumes nothing.
 use borrow.Author.Needs.{needs}
 use mathlib.Core.Path.{_≡_, subst}
 use Prim.Native.Nat.{ℕ, _-_, _≤_}
 use native.Mathlib.Omega.{arith}
 use denote.Ref.{now}
-use Rattle.simulate.specs.Simulated.{Rows, Updated}
-use Rattle.simulate.proofs.Updates.{update-first}
-use Rattle.simulate.proofs.update_from.Statement.{statement}
-use Rattle.simulate.proofs.update_from.Tie as tie
+use Rattle.simulate.specs.Simulated.{Rows}
+use Rattle.incremental.specs.Updated.{Updated}
+use Rattle.incremental.proofs.Updates.{update-first}
+use Rattle.incremental.proofs.update_from.Statement.{statement}
+use Rattle.incremental.proofs.update_from.Tie as tie
 
 abbrev Inv-loop : tie.InvT-loop
 Inv-loop n m arity fanins before tables masks count from rows₀ changed₀ h₀ rows changed h =

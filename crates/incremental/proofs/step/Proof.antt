@@ -1,13 +1,13 @@
--- `simulate::step` meets its contract. Assumes nothing.
+-- `incremental::step` meets its contract. Assumes nothing.
 use borrow.Author.Needs.{needs}
 use mathlib.Core.Path.{refl}
 use native.Mathlib.Omega.{arith}
 use lib.ListN.{getD}
 use denote.Ref.{now}
 use Rattle.simulate.proofs.Laws.{later}
-use Rattle.simulate.proofs.Updates.{update-skip, update-same, update-stored}
-use Rattle.simulate.proofs.step.Statement.{statement}
-use Rattle.simulate.proofs.step.Tie as tie
+use Rattle.incremental.proofs.Updates.{update-skip, update-same, update-stored}
+use Rattle.incremental.proofs.step.Statement.{statement}
+use Rattle.incremental.proofs.step.Tie as tie
 
 mul-t : tie.Need-mul-t
 mul-t c = search needs

@@ -1,8 +1,8 @@
--- `simulate::update` meets its contract. Assumes nothing.
+-- `incremental::update` meets its contract. Assumes nothing.
 use borrow.Author.Needs.{needs}
 use native.Mathlib.Omega.{arith}
-use Rattle.simulate.proofs.update.Statement.{statement}
-use Rattle.simulate.proofs.update.Tie as tie
+use Rattle.incremental.proofs.update.Statement.{statement}
+use Rattle.incremental.proofs.update.Tie as tie
 
 fanin-masks-requires : tie.Need-fanin-masks-requires
 fanin-masks-requires c κs = search needs
