@@ -1,4 +1,4 @@
-// The answers in a session that is valid: the tests that stand before the work, the exchange's answer and the verdict.
+// The calls in a session that is valid: what `engine` does after refusal 10, and a call for other languages after unpacking.
 // Callers test the session.
 ghost use mathlib.Core.Path.{_≡_};
 ghost use mathlib.Core.Bool.{not, _&&_};
@@ -10,10 +10,14 @@ ghost use Rattle.network.specs.declared.Answer.the-variants.{Done};
 ghost use Rattle.network.specs.Flat.{loadedNet};
 ghost use Rattle.network.specs.Tests.{first};
 ghost use Rattle.network.specs.State.{stateFault, stateTest};
-ghost use Rattle.network.specs.Calls.{gateTest, tableTest, entryFound, exchangeAnswer, verdictOf};
+ghost use Rattle.network.specs.Calls.{gateTest, tableTest, entryFound, exchangeAnswer, verdictOf, tablesOf, patternSetsOf, countsOf, writtenOf};
 use network::Answer;
+use network::Counts;
 use network::Refusal;
 use network::Session;
+use network::Tables;
+use network::TablesAnswer;
+use network::WriteAnswer;
 
 // The lowest entry of k fan-ins' tables that differs and is not open.
 fn first_closed(k: u8, loaded: u64, table: u64, opens: u64) -> Answer
@@ -30,7 +34,7 @@ fn first_closed(k: u8, loaded: u64, table: u64, opens: u64) -> Answer
 }
 
 // 11.
-pub fn gate_test(s: Session, gate: usize) -> Answer
+fn gate_test(s: Session, gate: usize) -> Answer
     requires { ⌜ stateFault s ≡ Done ⌝ }
     ensures { λ r. ⌜ r ≡ first (stateTest s ∷ gateTest (loadedNet s) gate ∷ []) ⌝ }
 {
@@ -93,4 +97,61 @@ pub fn verdict(s: Session, gate: usize, table: u64) -> Answer
     let n = s.n as usize;
     let g = gate - n;
     verdict::harm(s, g, table)
+}
+
+// The SDC, CDC, full and open table of a gate, or 11.
+pub fn tables(s: Session, gate: usize) -> TablesAnswer
+    requires { ⌜ stateFault s ≡ Done ⌝ }
+    ensures { λ r. ⌜ r ≡ tablesOf s gate ⌝ }
+{
+    let a = gate_test(s, gate);
+    if let Answer::Refused(r) = a {
+        return TablesAnswer::Refused(r);
+    }
+    let n = s.n as usize;
+    let g = gate - n;
+    let t = dontcares::gate_tables(s, g);
+    let d = dontcares::sdc(s, g);
+    TablesAnswer::Given(Tables {
+        sdc: d,
+        cdc: t.cdc,
+        full: t.full,
+        open_table: s.open_tables[g],
+    })
+}
+
+// The ODC and the compatible set of each gate, gate after gate from the start of the buffer, or 9; the words after the last stay.
+pub fn pattern_sets(s: Session, buf: &mut [u64]) -> Answer
+    requires { ⌜ stateFault s ≡ Done ⌝ }
+    ensures { λ r. ⌜ record { answer = r; buffer = now (buf .exit) } ≡ patternSetsOf s (now (buf .entry)) ⌝ }
+{
+    if buf.len() < patternsets::words_needed(s) {
+        return Answer::Refused(Refusal::BufferTooShort);
+    }
+    patternsets::fill(s, buf);
+    Answer::Done
+}
+
+// The number of patterns in the compatible set of each gate.
+pub fn counts(s: Session) -> Counts
+    requires { ⌜ stateFault s ≡ Done ⌝ }
+    ensures { λ r. ⌜ r ≡ countsOf s ⌝ }
+{
+    let c = compatible::counts(s);
+    Counts {
+        answer: Answer::Done,
+        counts: c,
+    }
+}
+
+// The file's bytes from the start of the buffer, with the length, or 9; the rest of the buffer stays.
+pub fn write(s: Session, buf: &mut [u8]) -> WriteAnswer
+    requires { ⌜ stateFault s ≡ Done ⌝ }
+    ensures { λ r. ⌜ record { answer = r; buffer = now (buf .exit) } ≡ writtenOf s (now (buf .entry)) ⌝ }
+{
+    if buf.len() < netwrite::bytes_needed(s) {
+        return WriteAnswer::Refused(Refusal::BufferTooShort);
+    }
+    let n = netwrite::write_bytes(s, buf);
+    WriteAnswer::Written(n)
 }

@@ -101,7 +101,7 @@ bit-ones k i h =
 not-xor : (k x : ℕ) → x < 2 ^ k → 2 ^ k - 1 - x ≡ bitXor x (2 ^ k - 1)
 not-xor k x h = omega (arith, xor-add-and x (2 ^ k - 1), and-mask x k, mod-eq-of-lt h)
 
-differs-true : (b : Bool) → differs b true ≡ not b
+pub differs-true : (b : Bool) → differs b true ≡ not b
 differs-true true = refl
 differs-true false = refl
 
@@ -188,6 +188,14 @@ bit-low hi k lo i h =
 
 pub bit-high : (hi k lo i : ℕ) → lo < 2 ^ k → bit (hi * 2 ^ k + lo) (k + i) ≡ bit hi i
 bit-high hi k lo i h = sym (bit-shr (hi * 2 ^ k + lo) k i) ∙ ap (λ (n : ℕ). bit n i) (high hi k h)
+
+-- a power of two has its own bit set
+pub power-own : (k : ℕ) → bit (2 ^ k) k ≡ true
+unfolding bit
+power-own k =
+    let e : 2 ^ k ≡ 1 * 2 ^ k + 0 = omega arith in
+    let i : k ≡ k + 0 = omega arith in
+    ap₂ bit e i ∙ bit-high 1 k 0 0 (pow-pos k)
 
 -- a number below 2 ^ i has no bit set at i
 pub bit-above : (x k i : ℕ) → x < 2 ^ k → k ≤ i → bit x i ≡ false

@@ -1,3 +1,4 @@
 pub mod Range
 pub mod Bit
 pub mod Cut
+pub mod Lists

@@ -4,7 +4,7 @@ ghost use mathlib.Core.List.{[], _∷_};
 ghost use Prim.Native.Nat.{ℕ, _+_, _-_, _*_, _^_, _<_, _≤_};
 ghost use lib.Dec.{ltb};
 ghost use lib.ListN.{getD};
-ghost use mathlib.Core.Bool.{true, false, not, _&&_, Bool·beq};
+ghost use mathlib.Core.Bool.{true, false, not, _&&_};
 ghost use Rattle.bits.specs.Cut.{Cut, Framed};
 ghost use Rattle.bits.specs.Range.{num, any, count};
 ghost use Rattle.bits.specs.Bit.{bit, choose, number, gives, Split};
@@ -187,16 +187,6 @@ pub fn rest(n: u32, x: u64) -> u64
     ensures { λ r. ⌜ r ≡ 2 ^ n - 1 - x ⌝ }
 {
     mask(n) - x
-}
-
-// The places where the bit of v is x.
-pub fn same(v: u64, x: bool) -> u64
-    ensures { λ r. ⌜ ((b : ℕ) → b < 64 → bit r b ≡ Bool·beq (bit v b) x) ⌝ }
-{
-    if x {
-        return v;
-    }
-    invert(v)
 }
 
 // Each of the first size words in two: its part in lo at its place, its part in hi size places on.

@@ -1,3 +1,6 @@
 pub mod Silent
+pub mod Names
+pub mod Leaves
+pub mod Fills
 pub mod Rows
 pub mod Cases

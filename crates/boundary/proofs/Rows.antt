@@ -6,12 +6,12 @@ use native.Mathlib.Numerals.{add-one}
 use native.Mathlib.Omega.{arith}
 use lib.ListN.{length, getD}
 use lib.Seq.{sets}
+use Rattle.bits.specs.Lists.{overwritten}
+use Rattle.buffer.specs.Laid.{Laid}
+use Rattle.buffer.proofs.Laying.{laid-append, laid-length, laid-start}
 use Rattle.network.specs.declared.Session.{Session}
 use Rattle.network.specs.DontCares.{sdc}
 use Rattle.network.specs.Flat.{currentNet}
-use Rattle.network.specs.Calls.{overwritten}
-use Rattle.netwrite.specs.Laid.{Laid}
-use Rattle.netwrite.proofs.Laws.{laid-append, laid-length, laid-start}
 use Rattle.dontcares.specs.Tabled.{Tabled}
 use Rattle.boundary.specs.Boundary.{allTableWords}
 
@@ -19,13 +19,14 @@ module _ (s : Session) (g : ℕ) {b b₁ : List ℕ} (l : Laid b 0 (allTableWord
   pub row-room : g < s .m → 4 * s .m ≤ length b → 4 * g + 4 ≤ length b₁
   row-room h r = let n = laid-length l in omega arith
 
-  pub row-next : {cdcs fulls b₂ : List ℕ} {d : ℕ} → Tabled (currentNet s) cdcs fulls (s .n) (s .m) → g < s .m → d ≡ sdc (currentNet s) (s .n + g)
+  pub row-next : {cdcs fulls b₂ : List ℕ} {d : ℕ} → Tabled (currentNet s) cdcs fulls (s .n) 0 (s .m) → g < s .m → d ≡ sdc (currentNet s) (s .n + g)
       → b₂ ≡ sets b₁ (4 * g) (d ∷ getD cdcs g 0 ∷ getD fulls g 0 ∷ getD (s .open_tables) g 0 ∷ [])
       → Laid b 0 (allTableWords s (g + 1)) b₂ (4 * (g + 1))
   row-next t h e q =
       let p : s .n + g - s .n ≡ g = omega arith in
+      let at = t .at g (omega arith) h in
       rw add-one (laid-append l (record {
-        buffer = q ∙ rw (e, t .cdc-at g h, t .full-at g h, p);
+        buffer = q ∙ rw (e, at .0, at .1, p);
         behind = omega arith;
       }))
 

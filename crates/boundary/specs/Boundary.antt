@@ -4,6 +4,7 @@ use mathlib.Core.List.{List, [], _∷_, _++_}
 use Prim.Native.Nat.{ℕ, zero, suc, _+_, _*_}
 use lib.ListN.{length}
 use Rattle.bits.specs.Range.{places}
+use Rattle.bits.specs.Lists.{overwritten}
 use Rattle.network.specs.declared.Session.{Session}
 use Rattle.network.specs.declared.Tables.{Tables}
 use Rattle.network.specs.declared.Answer.{Answer}
@@ -15,7 +16,7 @@ use Rattle.network.specs.Refusals.{numberOf, valuesOf}
 use Rattle.network.specs.Tests.{first}
 use Rattle.network.specs.Load.{loadOf}
 use Rattle.network.specs.Write.{bytesOf}
-use Rattle.network.specs.Calls.{gateTest, exchangeAnswer, stored, verdictOf, gateTables, roomTest, overwritten, filled, setWords, patternSetsOf, writeOf}
+use Rattle.network.specs.Calls.{gateTest, exchangeAnswer, stored, verdictOf, gateTables, roomTest, filled, setWords, patternSetsOf, writeOf}
 use Rattle.render.specs.Listing.{listingOf, listingInto}
 use Rattle.packed.specs.Packed.{packedOf, sessionWords, sessionIn, wordsTest}
 

@@ -3,6 +3,7 @@
 use mathlib.Core.List.{List, [], _∷_, _++_}
 use Prim.Native.Nat.{ℕ}
 use lib.ListN.{set, take, replicate}
+use Rattle.text.specs.Ascii.{ascii}
 use Rattle.network.specs.Net.{Replacement}
 use Rattle.network.specs.Cases.{twinBytes, twinSession}
 use Rattle.packed.specs.Packed.{packedOf}
@@ -40,10 +41,10 @@ cases =
     ∷ (told (verdictCall changed (cleared 2) (7 ∷ 7 ∷ [])), 14 ∷ 1 ∷ 0 ∷ [])
     ∷ (told (writeCall words (replicate 28 7) (7 ∷ [])), 0 ∷ 27 ∷ [])
     ∷ (laid (writeCall words (replicate 28 7) (7 ∷ [])), 0 ∷ twinBytes ++ 7 ∷ [])
-    -- a loaded file, and the line of a refused one: `refused 1`
+    -- a loaded file, and the line of a refused one
     ∷ (laid (loadCall twinBytes (replicate 428 9)), 0 ∷ words)
     ∷ (told (listingCall (take 26 twinBytes) (replicate 11 7) (7 ∷ 7 ∷ [])), 0 ∷ 10 ∷ 7 ∷ [])
-    ∷ (laid (listingCall (take 26 twinBytes) (replicate 11 7) (7 ∷ 7 ∷ [])), 0 ∷ 0x72 ∷ 0x65 ∷ 0x66 ∷ 0x75 ∷ 0x73 ∷ 0x65 ∷ 0x64 ∷ 0x20 ∷ 0x31 ∷ 0x0A ∷ 7 ∷ [])
+    ∷ (laid (listingCall (take 26 twinBytes) (replicate 11 7) (7 ∷ 7 ∷ [])), 0 ∷ ascii "refused 1\n" ++ 7 ∷ [])
     -- a refusal leaves what is lent: too short, no session, no room, no gate
     ∷ (told (exchangeCall (take 426 words) (cleared 1) []), 9 ∷ [])
     ∷ (told (exchangeCall (replicate 427 0) (cleared 1) []), 10 ∷ [])

@@ -4,12 +4,12 @@ ghost use mathlib.Core.List.{[], _∷_};
 ghost use Prim.Native.Nat.{_*_, _≤_};
 ghost use lib.Dec.{ltb};
 ghost use lib.ListN.{length};
+ghost use Rattle.bits.specs.Lists.{overwritten};
 ghost use Rattle.network.specs.declared.Answer.the-variants.{Done};
 ghost use Rattle.network.specs.declared.Refusal.the-variants.{BufferTooShort};
 ghost use Rattle.network.specs.Refusals.{numberOf, valuesOf};
 ghost use Rattle.network.specs.Tests.{refuseIf, first};
 ghost use Rattle.network.specs.State.{stateFault};
-ghost use Rattle.network.specs.Calls.{overwritten};
 ghost use Rattle.boundary.specs.Boundary.{allTableWords};
 use network::Answer;
 use network::Refusal;
@@ -20,7 +20,7 @@ pub fn give(values: &[u64], out: &mut [u64])
     requires { ⌜ length (now values) ≤ length (now out) ⌝ }
     ensures { λ _. ⌜ now (out .exit) ≡ overwritten (now (values .entry)) (now (out .entry)) ⌝ }
 {
-    packed::lay_words(out, 0, values);
+    buffer::lay_words(out, 0, values);
 }
 
 // What a refusal names goes to the start of `out`; its number is given back.
@@ -67,7 +67,7 @@ pub fn put_tables(s: Session, out: &mut [u64])
     let mut g: usize = 0;
     while g < m {
         let row = [dontcares::sdc(s, g), cdc[g], full[g], opens[g]];
-        packed::lay_words(out, 4 * g, &row);
+        buffer::lay_words(out, 4 * g, &row);
         g += 1;
     }
 }

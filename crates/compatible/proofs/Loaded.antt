@@ -8,13 +8,13 @@ use lib.ListN.{getD}
 use Rattle.bits.specs.Cut.{Framed}
 use Rattle.network.specs.declared.Session.{Session}
 use Rattle.network.specs.declared.Answer.the-variants.{Done}
-use Rattle.network.specs.Compatible.{compatible, compatibleCount}
+use Rattle.network.specs.Compatible.{compatible, compatibleCount, perGate}
 use Rattle.network.specs.Flat.{netOf, loadedNet}
 use Rattle.network.specs.State.{stateFault}
 use Rattle.network.specs.Valid.{NetOk, OutputsOk}
 use Rattle.network.proofs.Valid.{net-ok, outputs-ok}
 use Rattle.simulate.specs.Simulated.{wordsAt, Rows}
-use Rattle.compatible.specs.Words.{SetRows, LoadedSets, LoadedRows, SetWords, perGate, onesIn}
+use Rattle.compatible.specs.Words.{SetRows, LoadedSets, LoadedRows, SetWords, onesIn}
 use Rattle.compatible.proofs.Stores.{counts-by}
 use Rattle.compatible.proofs.SetLaws.{set-words}
 

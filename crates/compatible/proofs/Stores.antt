@@ -19,7 +19,8 @@ use Rattle.bits.proofs.BitLaws.{bit-and, bit-ext}
 use Rattle.bits.proofs.Ranges.{Changed, lt-cases, length-places, places-at, places-ext, table-lt, bit-table}
 use Rattle.bits.proofs.Cuts.{live-at, countBy, count-ext, count-le, count-cut}
 use Rattle.network.specs.Flat.{wordOf}
-use Rattle.compatible.specs.Words.{perGate, onesIn}
+use Rattle.network.specs.Compatible.{perGate}
+use Rattle.compatible.specs.Words.{onesIn}
 
 -- ## The words of a set
 

@@ -1,17 +1,17 @@
 -- What rows of words say of the compatible sets: the parts that rule 5 is put together from. Assumes nothing.
 use mathlib.Core.Path.{_≡_}
-use mathlib.Core.Bool.{Bool, cond, _||_}
+use mathlib.Core.Bool.{Bool, _&&_, _||_}
 use mathlib.Core.List.{List}
 use Prim.Native.Nat.{ℕ, zero, suc, _+_, _*_, _<_}
-use lib.Dec.{eqb, ltb}
+use lib.Dec.{eqb}
 use lib.ListN.{getD}
-use Rattle.bits.specs.Range.{_⇒_, every, count, places}
-use Rattle.bits.specs.Bit.{bit}
+use Rattle.bits.specs.Range.{_⇒_, every, count}
+use Rattle.bits.specs.Bit.{bit, column}
 use Rattle.bits.specs.Cut.{wordCount, Framed}
 use Rattle.network.specs.declared.Session.{Session}
-use Rattle.network.specs.Net.{Net}
+use Rattle.network.specs.Net.{Net, entry}
 use Rattle.network.specs.Compatible.{compatible}
-use Rattle.network.specs.Flat.{loadedNet, wordOf}
+use Rattle.network.specs.Flat.{gateAt, loadedNet, wordOf}
 use Rattle.simulate.specs.Simulated.{wordsAt, Rows}
 
 -- what the first p outputs leave of the set of signal s: e tells whether the pattern is excluded
@@ -21,6 +21,13 @@ outputsLeave outs p e s = every p (λ i. eqb (getD outs i 0) s ⇒ e)
 -- the edge set of fan-in r of gate g, where it is the signal s, at bit b: the gate's own word is h, and its fan-ins give the entry e
 abbrev pub edge : (fs es : List ℕ) (g h b e s r : ℕ) → Bool
 edge fs es g h b e s r = eqb (getD fs (6 * g + r) 0) s ⇒ (bit h b || bit (getD es (6 * g + r) 0) e)
+
+-- gate g has been passed: the sets `new` are the sets hs with the edge sets of its fan-ins taken in, at each of the first `count` words
+abbrev pub Passed : (ks fs es rows own hs new : List ℕ) (count g : ℕ) → Type 0
+Passed ks fs es rows own hs new count g =
+    (ts : List ℕ) (w b s : ℕ) → w < count → b < 64
+    → bit (getD (wordsAt new w) s 0) b
+    ≡ (bit (getD (wordsAt hs w) s 0) b && every (getD ks g 0) (edge fs es g (getD own w 0) b (entry (column (wordsAt rows w) b) (gateAt ks fs ts g)) s))
 
 -- the first `len` words of the compatible sets of the first c signals of N
 abbrev pub SetRows : (N : Net) (hs : List ℕ) (c len : ℕ) → Type 0
@@ -40,10 +47,6 @@ pub record LoadedRows (s : Session) (rows hs : List ℕ) (count live : ℕ) : Ty
 -- word w of the compatible set of gate g of the loaded network at place 16 g + w
 abbrev pub SetWords : (s : Session) (l : List ℕ) → Type 0
 SetWords s l = (g w : ℕ) → g < s .m → w < wordCount (s .n) → getD l (16 * g + w) 0 ≡ wordOf (s .n) (compatible (loadedNet s) (s .n + g)) w
-
--- in 40 places, one for each of m gates: what p says, and 0 past the last
-abbrev pub perGate : (m : ℕ) (p : ℕ → ℕ) → List ℕ
-perGate m p = places 40 (λ g. cond (ltb g m) (p g) 0)
 
 -- the ones of w words from place at on
 unfoldable pub onesIn : (ws : List ℕ) (at w : ℕ) → ℕ

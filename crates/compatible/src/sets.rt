@@ -1,18 +1,15 @@
 // Rules 5 and 6: the compatible sets of all signals, 64 patterns a word. Rows as in `simulate`: word w of signal s at place 16 * s + w.
 ghost use mathlib.Core.Path.{_≡_};
-ghost use mathlib.Core.Bool.{_&&_};
-ghost use mathlib.Core.List.{List};
 ghost use Prim.Native.Nat.{ℕ, _+_, _*_, _<_, _≤_};
 ghost use lib.Bits.{bitAnd, bitOr};
 ghost use lib.ListN.{length, getD, set};
-ghost use Rattle.bits.specs.Range.{every};
 ghost use Rattle.bits.specs.Bit.{bit, column};
 ghost use Rattle.network.specs.Net.{entry};
 ghost use Rattle.network.specs.Compatible.{compatibleFrom};
-ghost use Rattle.network.specs.Flat.{gateAt, gatesOf, netOf};
+ghost use Rattle.network.specs.Flat.{gatesOf, netOf};
 ghost use Rattle.network.specs.Valid.{GateOk, NetOk, OutputsOk};
 ghost use Rattle.simulate.specs.Simulated.{wordsAt, Rows};
-ghost use Rattle.compatible.specs.Words.{outputsLeave, edge, SetRows};
+ghost use Rattle.compatible.specs.Words.{outputsLeave, SetRows, Passed};
 
 // The words of signal s.
 fn row_of(rows: &[u64; 800], s: usize) -> [u64; 16]
@@ -72,7 +69,7 @@ fn through_gate(
     requires { ⌜ (g < 40) × (count ≤ 16) ⌝ }
     requires { ⌜ GateOk (now arity) (now fanins) g 50 ⌝ }
     requires { ⌜ length (now hs) ≡ 800 ⌝ }
-    ensures { λ _. ⌜ (length (now (hs .exit)) ≡ 800) × ((ts : List ℕ) (w b s : ℕ) → w < count → b < 64 → bit (getD (wordsAt (now (hs .exit)) w) s 0) b ≡ (bit (getD (wordsAt (now (hs .entry)) w) s 0) b && every (getD (now (arity .entry)) g 0) (edge (now (fanins .entry)) (now (edges .entry)) g (getD (now (own .entry)) w 0) b (entry (column (wordsAt (now (rows .entry)) w) b) (gateAt (now (arity .entry)) (now (fanins .entry)) ts g)) s))) ⌝ }
+    ensures { λ _. ⌜ (length (now (hs .exit)) ≡ 800) × Passed (now (arity .entry)) (now (fanins .entry)) (now (edges .entry)) (now (rows .entry)) (now (own .entry)) (now (hs .entry)) (now (hs .exit)) count g ⌝ }
 {
     let k = network::place(arity[g]);
     let mut free = [0u64; 16];

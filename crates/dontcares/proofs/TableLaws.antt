@@ -24,7 +24,7 @@ use Rattle.network.proofs.Earlier.{gate-is}
 use Rattle.entries.proofs.By.{by-rest}
 use Rattle.simulate.specs.Simulated.{wordsAt, Rows}
 use Rattle.observability.specs.Odc.{OdcAt}
-use Rattle.dontcares.specs.Tabled.{Tabled, TabledFrom}
+use Rattle.dontcares.specs.Tabled.{Tabled}
 
 -- ## Entries, word after word
 
@@ -140,7 +140,7 @@ module _ (ks fs ts ex outs : List ℕ) (n m p g : ℕ) (hg : g < m) where
 
 -- ## The tables of the gates from a on
 
-pub no-tables : (N : Net) (n a : ℕ) → TabledFrom N (replicate {A = ℕ} 40 0) (replicate {A = ℕ} 40 0) n a a
+pub no-tables : (N : Net) (n a : ℕ) → Tabled N (replicate {A = ℕ} 40 0) (replicate {A = ℕ} 40 0) n a a
 no-tables N n a = record { at = λ g l h. absurd (omega arith); past = λ g h. (zeros 40 g, zeros 40 g) }
   where
     zeros : (k g : ℕ) → getD (replicate {A = ℕ} k 0) g 0 ≡ 0
@@ -148,8 +148,8 @@ no-tables N n a = record { at = λ g l h. absurd (omega arith); past = λ g h. (
     zeros (suc k) zero = refl
     zeros (suc k) (suc g) = zeros k g
 
-pub tables-more : (N : Net) (cdcs fulls : List ℕ) (n a g x y : ℕ) → length cdcs ≡ 40 → length fulls ≡ 40 → g < 40 → TabledFrom N cdcs fulls n a g
-    → x ≡ cdc N (n + g) → y ≡ full N (n + g) → TabledFrom N (set cdcs g x) (set fulls g y) n a (g + 1)
+pub tables-more : (N : Net) (cdcs fulls : List ℕ) (n a g x y : ℕ) → length cdcs ≡ 40 → length fulls ≡ 40 → g < 40 → Tabled N cdcs fulls n a g
+    → x ≡ cdc N (n + g) → y ≡ full N (n + g) → Tabled N (set cdcs g x) (set fulls g y) n a (g + 1)
 tables-more N cdcs fulls n a g x y lc lf h t ex ey = record {
   at = λ q l u. here q l u (ℕ-discrete q g);
   past = λ q l. (
@@ -163,6 +163,3 @@ tables-more N cdcs fulls n a g x y lc lf h t ex ey = record {
     here q l u (no d) =
         let old = t .at q l (omega arith) in
         (getD-set-other cdcs g q x 0 (λ e. d (omega arith)) ∙ old .0, getD-set-other fulls g q y 0 (λ e. d (omega arith)) ∙ old .1)
-
-pub from-first : {N : Net} {cdcs fulls : List ℕ} {n m : ℕ} → TabledFrom N cdcs fulls n 0 m → Tabled N cdcs fulls n m
-from-first t = record { cdc-at = λ g h. t .at g (omega arith) h .0; full-at = λ g h. t .at g (omega arith) h .1; past = t .past }

@@ -3,16 +3,31 @@ use mathlib.Core.Path.{_≡_}
 use mathlib.Core.List.{List}
 use Prim.Native.Nat.{ℕ, _+_, _≤_, _<_}
 use lib.ListN.{getD}
+use Rattle.bits.specs.Cut.{Framed}
 use Rattle.network.specs.Net.{Net}
 use Rattle.network.specs.DontCares.{cdc, full}
-
--- the tables of the first m gates, zero past them
-pub record Tabled (N : Net) (cdcs fulls : List ℕ) (n m : ℕ) : Type 0 where
-  pub cdc-at : (g : ℕ) → g < m → getD cdcs g 0 ≡ cdc N (n + g)
-  pub full-at : (g : ℕ) → g < m → getD fulls g 0 ≡ full N (n + g)
-  pub past : (g : ℕ) → m ≤ g → (getD cdcs g 0 ≡ 0) × (getD fulls g 0 ≡ 0)
+use Rattle.network.specs.Flat.{netOf}
+use Rattle.network.specs.Valid.{NetOk}
+use Rattle.simulate.specs.Simulated.{Rows}
+use Rattle.observability.specs.Odc.{OdcAt}
 
 -- the tables of the gates from a to e, zero past them
-pub record TabledFrom (N : Net) (cdcs fulls : List ℕ) (n a e : ℕ) : Type 0 where
+pub record Tabled (N : Net) (cdcs fulls : List ℕ) (n a e : ℕ) : Type 0 where
   pub at : (g : ℕ) → a ≤ g → g < e → (getD cdcs g 0 ≡ cdc N (n + g)) × (getD fulls g 0 ≡ full N (n + g))
   pub past : (g : ℕ) → e ≤ g → (getD cdcs g 0 ≡ 0) × (getD fulls g 0 ≡ 0)
+
+-- Of every network that has these rows of values and these words of the ODC:
+
+-- c and f are the tables of gate g
+abbrev pub GateTabled : (ks fs excluded rows odcs : List ℕ) (count live g c f : ℕ) → Type 0
+GateTabled ks fs excluded rows odcs count live g c f =
+    (ts outs : List ℕ) (n m p : ℕ) → g < m → NetOk ks fs n m → Rows ks fs ts rows n m count → Framed n count live
+    → OdcAt (netOf ks fs ts n m excluded outs p) odcs n g count
+    → (c ≡ cdc (netOf ks fs ts n m excluded outs p) (n + g)) × (f ≡ full (netOf ks fs ts n m excluded outs p) (n + g))
+
+-- the arrays hold the tables of the gates from a to k, where the words are there of those from a to e
+abbrev pub GatesTabled : (ks fs excluded rows odcs : List ℕ) (count live a e : ℕ) (cdcs fulls : List ℕ) (k : ℕ) → Type 0
+GatesTabled ks fs excluded rows odcs count live a e cdcs fulls k =
+    (ts outs : List ℕ) (n m p : ℕ) → e ≤ m → NetOk ks fs n m → Rows ks fs ts rows n m count → Framed n count live
+    → ((g : ℕ) → a ≤ g → g < e → OdcAt (netOf ks fs ts n m excluded outs p) odcs n g count)
+    → Tabled (netOf ks fs ts n m excluded outs p) cdcs fulls n a k

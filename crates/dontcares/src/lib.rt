@@ -7,16 +7,16 @@ ghost use lib.Dec.{eqb};
 ghost use lib.ListN.{length, getD};
 ghost use Rattle.bits.specs.Range.{any};
 ghost use Rattle.bits.specs.Bit.{bit, differs, tableOf, column};
-ghost use Rattle.bits.specs.Cut.{wordCount, Framed};
+ghost use Rattle.bits.specs.Cut.{wordCount};
 ghost use Rattle.network.specs.declared.Answer.the-variants.{Done};
 ghost use Rattle.network.specs.Net.{entry};
 ghost use Rattle.network.specs.DontCares.{sdc, cdc, odc, full};
-ghost use Rattle.network.specs.Flat.{gateAt, netOf, currentNet, wordOf};
+ghost use Rattle.network.specs.Flat.{gateAt, currentNet, wordOf};
 ghost use Rattle.network.specs.State.{stateFault};
-ghost use Rattle.network.specs.Valid.{GateOk, NetOk};
-ghost use Rattle.simulate.specs.Simulated.{wordsAt, Rows};
+ghost use Rattle.network.specs.Valid.{GateOk};
+ghost use Rattle.simulate.specs.Simulated.{wordsAt};
 ghost use Rattle.observability.specs.Odc.{OdcAt};
-ghost use Rattle.dontcares.specs.Tabled.{Tabled, TabledFrom};
+ghost use Rattle.dontcares.specs.Tabled.{Tabled, GateTabled, GatesTabled};
 use network::Session;
 
 // The live places of each word that lie neither in E nor in gate g's ODC.
@@ -80,7 +80,7 @@ fn tables_at(
 ) -> GateTables
     requires { ⌜ (g < 40) × (count ≤ 16) ⌝ }
     requires { ⌜ GateOk (now arity) (now fanins) g 50 ⌝ }
-    ensures { λ r. ⌜ ((ts outs : List ℕ) (n m p : ℕ) → g < m → NetOk (now (arity .entry)) (now (fanins .entry)) n m → Rows (now (arity .entry)) (now (fanins .entry)) ts (now (rows .entry)) n m count → Framed n count live → OdcAt (netOf (now (arity .entry)) (now (fanins .entry)) ts n m (now (excluded .entry)) outs p) (now (odc .entry)) n g count → (r .cdc ≡ cdc (netOf (now (arity .entry)) (now (fanins .entry)) ts n m (now (excluded .entry)) outs p) (n + g)) × (r .full ≡ full (netOf (now (arity .entry)) (now (fanins .entry)) ts n m (now (excluded .entry)) outs p) (n + g))) ⌝ }
+    ensures { λ r. ⌜ GateTabled (now (arity .entry)) (now (fanins .entry)) (now (excluded .entry)) (now (rows .entry)) (now (odc .entry)) count live g (r .cdc) (r .full) ⌝ }
 {
     let all = [live; 16];
     let came = delivered(arity, fanins, rows, &all, count, g);
@@ -115,7 +115,7 @@ fn tables_of(
 ) -> AllTables
     requires { ⌜ (a ≤ e) × (e ≤ 40) × (count ≤ 16) ⌝ }
     requires { ⌜ ((g : ℕ) → g < e → GateOk (now arity) (now fanins) g 50) ⌝ }
-    ensures { λ r. ⌜ ((ts outs : List ℕ) (n m p : ℕ) → e ≤ m → NetOk (now (arity .entry)) (now (fanins .entry)) n m → Rows (now (arity .entry)) (now (fanins .entry)) ts (now (rows .entry)) n m count → Framed n count live → ((g : ℕ) → a ≤ g → g < e → OdcAt (netOf (now (arity .entry)) (now (fanins .entry)) ts n m (now (excluded .entry)) outs p) (now (odc .entry)) n g count) → TabledFrom (netOf (now (arity .entry)) (now (fanins .entry)) ts n m (now (excluded .entry)) outs p) (r .cdc) (r .full) n a e) ⌝ }
+    ensures { λ r. ⌜ GatesTabled (now (arity .entry)) (now (fanins .entry)) (now (excluded .entry)) (now (rows .entry)) (now (odc .entry)) count live a e (r .cdc) (r .full) e ⌝ }
 {
     let mut cdc = [0u64; 40];
     let mut full = [0u64; 40];
@@ -136,7 +136,7 @@ fn tables_of(
 fn sets_between(s: Session, a: usize, t: usize, e: usize, odc: &mut [u64; 640]) -> AllTables
     requires { ⌜ stateFault s ≡ Done ⌝ }
     requires { ⌜ (a ≤ t) × (t ≤ e) × (e ≤ s .m) × (length (now odc) ≡ 640) ⌝ }
-    ensures { λ r. ⌜ ((g : ℕ) → a ≤ g → g < e → OdcAt (currentNet s) (now (odc .exit)) (s .n) g (wordCount (s .n))) × TabledFrom (currentNet s) (r .cdc) (r .full) (s .n) a t ⌝ }
+    ensures { λ r. ⌜ ((g : ℕ) → a ≤ g → g < e → OdcAt (currentNet s) (now (odc .exit)) (s .n) g (wordCount (s .n))) × Tabled (currentNet s) (r .cdc) (r .full) (s .n) a t ⌝ }
 {
     let n = network::place(s.n);
     let m = network::place(s.m);
@@ -183,7 +183,7 @@ pub fn odc_sets(s: Session) -> [u64; 640]
 // Rules 2 and 4 for all gates.
 pub fn all_tables(s: Session) -> AllTables
     requires { ⌜ stateFault s ≡ Done ⌝ }
-    ensures { λ r. ⌜ Tabled (currentNet s) (r .cdc) (r .full) (s .n) (s .m) ⌝ }
+    ensures { λ r. ⌜ Tabled (currentNet s) (r .cdc) (r .full) (s .n) 0 (s .m) ⌝ }
 {
     let m = network::place(s.m);
     let mut l = [0u64; 640];

@@ -13,15 +13,15 @@ use lib.ListN.{length, getD, set}
 use lib.Pow.{pow-add, pow-lt, pow-mono, pow-pos, split}
 use lib.Seq.{getD-set-same, getD-set-other}
 use borrow.Author.Tests.{not-true}
-use Rattle.bits.specs.Range.{_⇒_}
 use Rattle.bits.specs.Bit.{bit, choose, differs, tableOf}
-use Rattle.bits.proofs.BitLaws.{bit-and, bit-xor, bit-ext, bit-zero, bit-ones, bit-shr, bit-low, bit-high, bit-above}
-use Rattle.bits.proofs.Logic.{beq-e, beq-i, differs-e, differs-i, imp-e, imp-i}
+use Rattle.bits.proofs.BitLaws.{bit-and, bit-xor, bit-ext, bit-zero, bit-ones, bit-shr, bit-low, bit-high, bit-above, differs-true, power-own}
+use Rattle.bits.proofs.Logic.{beq-i, differs-e, differs-i}
 use Rattle.bits.proofs.Ranges.{and-l, and-r, and-i, or-r, and-true, by-cases, iff, every-e, every-i, lt-cases, table-lt, bit-table, entries-few}
 use Rattle.network.specs.Net.{entry}
 use Rattle.network.specs.Compatible.{agree, constant, turns, freeFanins}
 use Rattle.network.specs.Flat.{gateAt}
 use Rattle.network.proofs.Laws.{entry-lt, arity-at, table-at}
+use Rattle.network.proofs.Safe.{constant-e, constant-i, constant-none}
 use Rattle.edges.specs.Edges.{edgeTable, Edged, Constants, Doubled, Halved}
 
 and-false : (a : Bool) → (a && false) ≡ false
@@ -45,17 +45,10 @@ module _ (r f : ℕ) (h : f < 2 ^ r) where
       go (yes l) = ap (λ (x : ℕ). bit x i) parts ∙ bit-low 1 r f i l
       go (no m) = bit-above (2 ^ r + f) (r + 1) i (omega (arith, pow-add 2 r 1)) (omega arith) ∙ sym (bit-above f r i h (omega arith))
 
-power-own : (r : ℕ) → bit (2 ^ r) r ≡ true
-power-own r = ap (λ (x : ℕ). bit x r) (sym (add-zero (2 ^ r))) ∙ with-own r 0 (pow-pos r)
-
 power-other : (r i : ℕ) → (i ≡ r → ⊥) → bit (2 ^ r) i ≡ false
 power-other r i n = ap (λ (x : ℕ). bit x i) (sym (add-zero (2 ^ r))) ∙ with-other r 0 (pow-pos r) i n ∙ bit-zero i
 
 -- ## The entry t with fan-in r turned
-
-differs-true : (b : Bool) → differs b true ≡ not b
-differs-true true = refl
-differs-true false = refl
 
 differs-false : (b : Bool) → differs b false ≡ b
 differs-false true = refl
@@ -116,17 +109,6 @@ turned-word x r step ins y t hr ht es input e =
 
 -- ## Constant over the fan-ins of a set
 
-constant-e : (k table f t : ℕ) → constant k table f t ≡ true → (u : ℕ) → u < 2 ^ k → agree k f t u ≡ true → bit table t ≡ bit table u
-unfolding constant
-constant-e k table f t c u h a =
-    beq-e (bit table t) (bit table u) (imp-e (agree k f t u) (Bool·beq (bit table t) (bit table u)) (every-e (2 ^ k) (λ u. agree k f t u ⇒ Bool·beq (bit table t) (bit table u)) c u h) a)
-
-constant-i : (k table f t : ℕ) → ((u : ℕ) → u < 2 ^ k → agree k f t u ≡ true → bit table t ≡ bit table u) → constant k table f t ≡ true
-unfolding constant
-constant-i k table f t s =
-    every-i (2 ^ k) (λ u. agree k f t u ⇒ Bool·beq (bit table t) (bit table u))
-    (λ u h. imp-i (agree k f t u) (Bool·beq (bit table t) (bit table u)) (λ a. beq-i (bit table t) (bit table u) (s u h a)))
-
 -- t and u have the same value at fan-in r, or it is free
 abbrev agreeAt : ℕ → ℕ → ℕ → ℕ → Bool
 agreeAt free t u r = bit free r || Bool·beq (bit t r) (bit u r)
@@ -144,13 +126,6 @@ agree-but k r f g t s u ef et own a = every-i k (agreeAt g s u) (λ i h. go i (e
     go : (i : ℕ) → agreeAt f t u i ≡ true → Dec (i ≡ r) → agreeAt g s u i ≡ true
     go i b (yes q) = rw q own
     go i b (no n) = rw (ef i n, et i n) b
-
--- with nothing free
-constant-none : (k table t : ℕ) → t < 2 ^ k → constant k table 0 t ≡ true
-unfolding agree
-constant-none k table t h =
-    constant-i k table 0 t
-    (λ u hu a. ap (bit table) (bit-ext k t u h hu (λ i l. beq-e (bit t i) (bit u i) (rw (bit-zero i) at (every-e k (agreeAt 0 t u) a i l)))))
 
 -- two values are the same, or each is the other inverted
 either : {P : Type 0} (a b : Bool) → (a ≡ b → P) → (not a ≡ b → P) → P

@@ -8,6 +8,7 @@ use native.Mathlib.Omega.{arith}
 use lib.Dec.{ltb}
 use lib.ListN.{length, getD}
 use borrow.Author.Tests.{le-ltb, lt-ltb}
+use Rattle.bits.specs.Lists.{overwritten}
 use Rattle.bits.proofs.Ranges.{length-places, places-at}
 use Rattle.bits.proofs.Logic.{clash}
 use Rattle.network.specs.declared.Session.{Session}
@@ -23,7 +24,7 @@ use Rattle.network.specs.Tests.{first}
 use Rattle.network.specs.State.{stateTest}
 use Rattle.network.specs.Load.{loadDone, onward, readOf, opened, loadOf}
 use Rattle.network.specs.Write.{bytesOf}
-use Rattle.network.specs.Calls.{gateTest, tableTest, harmTest, exchangeTests, heldClosed, exchangeAnswer, exchanged, exchangeOf, verdictOf, gateTables, givenTables, tablesOf, Filled, roomTest, overwritten, filled, setWords, patternSetsOf, writeOf, countsFor, countsOf}
+use Rattle.network.specs.Calls.{gateTest, tableTest, harmTest, exchangeTests, heldClosed, exchangeAnswer, exchanged, exchangeOf, verdictOf, gateTables, givenTables, tablesOf, Filled, roomTest, filled, setWords, patternSetsOf, writeOf, countsFor, countsOf, withLength, writtenOf}
 use Rattle.network.specs.Sessions.{after, lastAccepted, NoHarm, FirstHarm}
 use Rattle.network.proofs.TestLaws.{alone, count-e}
 use Rattle.network.proofs.Valid.{valid-e, state-e, state-i}
@@ -33,7 +34,6 @@ use Rattle.network.proofs.Reached.{loaded-fresh, loaded-shaped}
 use Rattle.network.proofs.Harm.{harm-done, harm-at}
 use Rattle.network.proofs.Demand3.{demand3-of, rule4-of}
 use Rattle.roundtrip.proofs.RoundTrip.{round-trip}
-use Rattle.engine.specs.Written.{withLength, writtenOf}
 use Rattle.engine.specs.Demands.{Ends, Demand1, lone, Changes, Judged, Reached, Demand2, Demand3}
 use Rattle.engine.proofs.Outcomes.{file, ends, harm-only, tests-end, room-among, state-among, gate-among, table-among, closed-among, harm-among, read-among}
 

@@ -1,32 +1,27 @@
--- What each call gives by the answer of its tests. Assumes nothing.
+-- What each call gives where 10 refuses it, and what exchange and load give by their answers. Assumes nothing.
 use mathlib.Core.Path.{_≡_, refl, sym, ap, ap₂, _∙_}
-use mathlib.Core.List.{List, [], _∷_}
-use Prim.Native.Nat.{ℕ, _+_, _-_, _≤_, _<_}
-use native.Mathlib.Omega.{arith}
-use lib.ListN.{length, getD, replicate}
-use borrow.Author.Tests.{le-ltb, lt-ltb}
+use mathlib.Core.List.{List}
+use Prim.Native.Nat.{ℕ}
+use lib.ListN.{replicate}
 use Rattle.network.specs.declared.Session.{Session}
 use Rattle.network.specs.declared.Loaded.{Loaded}
 use Rattle.network.specs.declared.Counts.{Counts}
 use Rattle.network.specs.declared.Refusal.{Refusal}
-use Rattle.network.specs.declared.Refusal.the-variants.{BufferTooShort, InvalidState}
 use Rattle.network.specs.declared.TablesAnswer.the-variants as tables
 use Rattle.network.specs.declared.Answer.{Answer}
 use Rattle.network.specs.declared.Answer.the-variants.{Done, Refused}
 use Rattle.network.specs.Net.{Replacement}
-use Rattle.network.specs.DontCares.{sdc, cdc, full}
-use Rattle.network.specs.Flat.{loadedNet, currentNet}
-use Rattle.network.specs.Tests.{first}
-use Rattle.network.specs.State.{stateFault, asInvalid, stateTest}
+use Rattle.network.specs.Flat.{loadedNet}
+use Rattle.network.specs.State.{stateFault, stateTest}
 use Rattle.network.specs.Load.{started, loadDone, loadRefused, opened, readOf, loadOf}
-use Rattle.network.specs.Calls.{gateTest, stored, exchangeAnswer, exchangeOf, Filled, roomTest, overwritten, filled, tablesOf, countsFor, countsOf}
-use Rattle.network.proofs.TestLaws.{refused-done}
+use Rattle.network.specs.Calls.{stored, exchangeAnswer, exchangeOf, tablesOf, countsFor, countsOf}
 use Rattle.network.proofs.Valid.{state-i}
 use Rattle.network.proofs.Reached.{opened-fault, loaded-fresh}
+use Rattle.answers.proofs.Given.{filling, counts-done}
 use Rattle.engine.specs.declared.Counted.{Counted}
 use Rattle.engine.specs.Counted.{countedOf}
 
--- ## Exchange, and calls that fill a buffer
+-- ## Exchange, and what 10 leaves of a buffer
 
 pub exchange-refused : (s : Session) (r : Replacement) {a : Answer} {f : Refusal} → a ≡ exchangeAnswer s r → a ≡ Refused f → record { answer = a; session = s } ≡ exchangeOf s r
 unfolding exchangeOf
@@ -36,54 +31,21 @@ pub exchange-done : (s : Session) (r : Replacement) {a : Answer} → a ≡ excha
 unfolding exchangeOf
 exchange-done s r e k = rw (sym e ∙ k)
 
-invalid : (a : Answer) {r : Refusal} → asInvalid a ≡ Refused r → Refused InvalidState ≡ asInvalid a
-invalid Done e = absurd (refused-done _ (sym e))
-invalid (Refused r) e = refl
-
--- 10 is the one refusal of a state
-pub state-refused : (s : Session) {a : Answer} {r : Refusal} → a ≡ stateTest s → a ≡ Refused r → Refused InvalidState ≡ stateTest s
-unfolding stateTest
-state-refused s e k = invalid (stateFault s) (sym e ∙ k)
-
--- a call that fills a lent buffer with `new`: 10, then 9
-abbrev pub filling : Session → List ℕ → List ℕ → Filled
-filling s new buffer = filled (first (stateTest s ∷ roomTest (length new) buffer ∷ [])) new buffer
-
-module _ (s : Session) (new buffer : List ℕ) where
-  pub filling-invalid : {r : Refusal} → stateTest s ≡ Refused r → filling s new buffer ≡ record { answer = Refused r; buffer = buffer }
-  filling-invalid e = rw e
-
-  pub filling-short : stateTest s ≡ Done → length buffer < length new → filling s new buffer ≡ record { answer = Refused BufferTooShort; buffer = buffer }
-  filling-short e h = rw (e, lt-ltb (length buffer) (length new) h)
-
-  pub filling-done : stateTest s ≡ Done → length new ≤ length buffer → filling s new buffer ≡ record { answer = Done; buffer = overwritten new buffer }
-  filling-done e h = rw (e, le-ltb (length buffer) (length new) h)
+-- a call that fills a lent buffer with `new`
+pub filling-invalid : (s : Session) (new buffer : List ℕ) {r : Refusal} → stateTest s ≡ Refused r → filling s new buffer ≡ record { answer = Refused r; buffer = buffer }
+filling-invalid s new buffer e = rw e
 
 -- ## Tables
 
-module _ (s : Session) (k : ℕ) where
-  pub tables-refused : {r : Refusal} → first (stateTest s ∷ gateTest (loadedNet s) k ∷ []) ≡ Refused r → tables.Refused r ≡ tablesOf s k
-  unfolding tablesOf
-  tables-refused e = rw e
-
-  -- the tables of the gate's place
-  pub tables-done : first (stateTest s ∷ gateTest (loadedNet s) k ∷ []) ≡ Done → s .n ≤ k → {d c f : ℕ}
-      → d ≡ sdc (currentNet s) (s .n + (k - s .n)) → c ≡ cdc (currentNet s) (s .n + (k - s .n)) → f ≡ full (currentNet s) (s .n + (k - s .n))
-      → tables.Given (record { sdc = d; cdc = c; full = f; open_table = getD (s .open_tables) (k - s .n) 0 }) ≡ tablesOf s k
-  unfolding tablesOf
-  tables-done e h p q r =
-      let back : s .n + (k - s .n) ≡ k = omega arith in
-      rw (e, p, q, r, back)
+pub tables-invalid : (s : Session) (k : ℕ) {r : Refusal} → stateTest s ≡ Refused r → tables.Refused r ≡ tablesOf s k
+unfolding tablesOf
+tables-invalid s k e = rw e
 
 -- ## Counts and load
 
 pub counts-refused : (s : Session) {a : Answer} {r : Refusal} → a ≡ stateTest s → a ≡ Refused r → record { answer = a; counts = replicate 40 0 } ≡ countsOf s
 unfolding countsOf
 counts-refused s e k = rw (sym e ∙ k, k)
-
-pub counts-done : (s : Session) → stateTest s ≡ Done → countsFor Done s ≡ countsOf s
-unfolding countsOf
-counts-done s e = rw e
 
 module _ (bytes : List ℕ) where
   pub load-refused : {r : Refusal} → readOf bytes .answer ≡ Refused r → loadRefused r ≡ loadOf bytes

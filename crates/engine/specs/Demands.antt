@@ -7,6 +7,7 @@ use mathlib.Core.Bool.{true}
 use mathlib.Core.List.{List, [], _∷_}
 use Prim.Native.Nat.{ℕ, _+_, _-_, _<_, _≤_}
 use lib.ListN.{length, getD}
+use Rattle.bits.specs.Lists.{Bytes, overwritten}
 use Rattle.network.specs.declared.Session.{Session}
 use Rattle.network.specs.declared.Refusal.{Refusal}
 use Rattle.network.specs.declared.Refusal.the-variants.{Harm}
@@ -23,9 +24,8 @@ use Rattle.network.specs.Tests.{member}
 use Rattle.network.specs.State.{stateTest}
 use Rattle.network.specs.Load.{loadDone, loadRefused, readOf, opened, loadOf}
 use Rattle.network.specs.Write.{bytesOf}
-use Rattle.network.specs.Calls.{fits, stored, exchangeOf, verdictOf, gateTables, tablesOf, overwritten, setWords, patternSetsOf, countsOf, countsFor}
+use Rattle.network.specs.Calls.{fits, stored, exchangeOf, verdictOf, gateTables, tablesOf, setWords, patternSetsOf, countsOf, countsFor, writtenOf}
 use Rattle.network.specs.Sessions.{after, Demand3Of, NoHarm, FirstHarm, Rule4Of}
-use Rattle.engine.specs.Written.{writtenOf}
 
 -- ## Demand 1: for every file, buffer, table and session state, a call ends in one of the listed outcomes, or in a numbered refusal
 -- that changes neither state nor lent buffer
@@ -60,10 +60,6 @@ pub record Demand1 : Type 0 where
   pub counts : (s : Session) → Ends (countsOf s) (countsFor Done s) (10 ∷ []) (λ r. countsFor (Refused r) s)
 
 -- ## Demand 2: the tables are 01's, a lone replacement is judged exactly, and a network written and read again is the same
-
--- each element is a byte
-abbrev pub Bytes : List ℕ → Type 0
-Bytes l = (i : ℕ) → getD l i 0 < 256
 
 -- the current network with one gate replaced
 abbrev pub lone : Session → Replacement → Net

@@ -1,21 +1,16 @@
-// The calls of the engine. None has a `requires`: whatever is passed, a call gives what its definition says, refusals included.
+// The calls of the engine: refusal 10, then the call in a valid session. None has a `requires`: whatever is passed, a call gives
+// what its definition says, refusals included.
 ghost use mathlib.Core.Path.{_≡_};
-ghost use mathlib.Core.List.{[], _∷_};
 ghost use Rattle.network.specs.declared.Answer.the-variants.{Done};
-ghost use Rattle.network.specs.Flat.{loadedNet};
-ghost use Rattle.network.specs.Tests.{first};
-ghost use Rattle.network.specs.State.{stateFault, stateTest};
+ghost use Rattle.network.specs.State.{stateFault};
 ghost use Rattle.network.specs.Load.{loadOf, loadDone, withOpenTables, opened};
-ghost use Rattle.network.specs.Calls.{gateTest, exchangeAnswer, exchangeOf, verdictOf, tablesOf, patternSetsOf, countsFor, countsOf};
+ghost use Rattle.network.specs.Calls.{exchangeAnswer, exchangeOf, verdictOf, tablesOf, patternSetsOf, countsFor, countsOf, writtenOf};
 ghost use Rattle.engine.specs.Counted.{countedOf};
-ghost use Rattle.engine.specs.Written.{writtenOf};
 use network::Answer;
 use network::Counts;
 use network::Exchanged;
 use network::Loaded;
-use network::Refusal;
 use network::Session;
-use network::Tables;
 use network::TablesAnswer;
 use network::WriteAnswer;
 
@@ -62,35 +57,15 @@ pub fn verdict(s: Session, gate: usize, table: u64) -> Answer
     answers::verdict(s, gate, table)
 }
 
-// 10, then 11.
-fn gate_test(s: Session, gate: usize) -> Answer
-    ensures { λ r. ⌜ r ≡ first (stateTest s ∷ gateTest (loadedNet s) gate ∷ []) ⌝ }
-{
-    let v = state::state_test(s);
-    if let Answer::Refused(_) = v {
-        return v;
-    }
-    answers::gate_test(s, gate)
-}
-
 // The SDC, CDC, full and open table of a gate.
 pub fn tables(s: Session, gate: usize) -> TablesAnswer
     ensures { λ r. ⌜ r ≡ tablesOf s gate ⌝ }
 {
-    let a = gate_test(s, gate);
-    if let Answer::Refused(r) = a {
+    let v = state::state_test(s);
+    if let Answer::Refused(r) = v {
         return TablesAnswer::Refused(r);
     }
-    let n = s.n as usize;
-    let g = gate - n;
-    let t = dontcares::gate_tables(s, g);
-    let d = dontcares::sdc(s, g);
-    TablesAnswer::Given(Tables {
-        sdc: d,
-        cdc: t.cdc,
-        full: t.full,
-        open_table: s.open_tables[g],
-    })
+    answers::tables(s, gate)
 }
 
 // The ODC and the compatible set of each gate, gate after gate from the start of the buffer; the words after the last stay.
@@ -101,11 +76,7 @@ pub fn pattern_sets(s: Session, buf: &mut [u64]) -> Answer
     if let Answer::Refused(_) = v {
         return v;
     }
-    if buf.len() < patternsets::words_needed(s) {
-        return Answer::Refused(Refusal::BufferTooShort);
-    }
-    patternsets::fill(s, buf);
-    Answer::Done
+    answers::pattern_sets(s, buf)
 }
 
 // The number of patterns in the compatible set of each gate.
@@ -119,11 +90,7 @@ pub fn counts(s: Session) -> Counts
             counts: [0u64; 40],
         };
     }
-    let c = compatible::counts(s);
-    Counts {
-        answer: Answer::Done,
-        counts: c,
-    }
+    answers::counts(s)
 }
 
 // The session of a network that was read, with these open tables.
@@ -154,7 +121,7 @@ pub fn load(bytes: &[u8]) -> Loaded
     let l = netfile::read(bytes);
     let a = l.answer;
     if let Answer::Refused(r) = a {
-        return netfile::refused(r);
+        return network::refused(r);
     }
     let s = l.session;
     with_open_tables(s)
@@ -189,7 +156,7 @@ pub fn load_counted(bytes: &[u8]) -> Counted
     if let Answer::Refused(r) = a {
         let none = [0u64; 40];
         return Counted {
-            loaded: netfile::refused(r),
+            loaded: network::refused(r),
             counts: none,
         };
     }
@@ -202,12 +169,8 @@ pub fn write(s: Session, buf: &mut [u8]) -> WriteAnswer
     ensures { λ r. ⌜ record { answer = r; buffer = now (buf .exit) } ≡ writtenOf s (now (buf .entry)) ⌝ }
 {
     let v = state::state_test(s);
-    if let Answer::Refused(_) = v {
-        return WriteAnswer::Refused(Refusal::InvalidState);
+    if let Answer::Refused(r) = v {
+        return WriteAnswer::Refused(r);
     }
-    if buf.len() < netwrite::bytes_needed(s) {
-        return WriteAnswer::Refused(Refusal::BufferTooShort);
-    }
-    let n = netwrite::write_bytes(s, buf);
-    WriteAnswer::Written(n)
+    answers::write(s, buf)
 }

@@ -9,12 +9,12 @@ use native.Mathlib.Omega.{arith}
 use lib.Bits.{bitAnd, bitOr}
 use lib.Dec.{eqb}
 use lib.ListN.{length, getD, take, set, length-append}
-use lib.Pow.{pow-lt, pow-pos}
+use lib.Pow.{pow-lt}
 use lib.Seq.{getD-take, getD-at, getD-set-same, getD-set-other, set-getD, take-take, take-length, take-append-le}
 use borrow.Author.Tests.{eq-eqb, ne-eqb}
 use Rattle.bits.specs.Range.{places}
 use Rattle.bits.specs.Bit.{bit, differs, column}
-use Rattle.bits.proofs.BitLaws.{bit-and, bit-or, bit-zero, bit-above, bit-high}
+use Rattle.bits.proofs.BitLaws.{bit-and, bit-or, bit-zero, bit-above, power-own}
 use Rattle.bits.proofs.Logic.{clash}
 use Rattle.bits.proofs.Ranges.{or-r, length-places, places-ext, column-at}
 use Rattle.network.specs.Net.{Gate, entry, run}
@@ -122,13 +122,6 @@ module _ (ks fs ts us : List ℕ) (n x g : ℕ)
       ∙ sym (other-suc ks fs ts n x g h)
 
 -- ## Sets of signals
-
-power-own : (k : ℕ) → bit (2 ^ k) k ≡ true
-unfolding bit
-power-own k =
-    let e : 2 ^ k ≡ 1 * 2 ^ k + 0 = omega arith in
-    let i : k ≡ k + 0 = omega arith in
-    ap₂ bit e i ∙ bit-high 1 k 0 0 (pow-pos k)
 
 power-above : (k i : ℕ) → k < i → bit (2 ^ k) i ≡ false
 power-above k i h = bit-above (2 ^ k) i i (pow-lt h) (omega arith)

@@ -17,3 +17,9 @@ pub record Updated (ks fs ts old rows : List ℕ) (n count h changed : ℕ) : Ty
   pub done : Rows ks fs ts rows n h count
   pub kept : (w s : ℕ) → w < count → bit changed s ≡ false → getD (wordsAt rows w) s 0 ≡ getD (wordsAt old w) s 0
   pub later : (s : ℕ) → n + h ≤ s → bit changed s ≡ false
+
+-- gate h is done too, and r has what changed: of any rows `old` under the tables `before`, where `rows` was done up to gate h, `new` is done up to the next
+abbrev pub Stepped : (ks fs before ts masks rows new : List ℕ) (n count h changed r : ℕ) → Type 0
+Stepped ks fs before ts masks rows new n count h changed r =
+    (old : List ℕ) (m : ℕ) → h < m → Rows ks fs before old n m count → Masked ks fs masks m
+    → Updated ks fs ts old rows n count h changed → Updated ks fs ts old new n count (h + 1) r

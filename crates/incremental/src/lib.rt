@@ -1,7 +1,6 @@
 // Incremental simulation: rows of values under some tables become those under others. Rows as in `simulate`.
 ghost use mathlib.Core.Path.{_≡_};
 ghost use mathlib.Core.Bool.{true};
-ghost use mathlib.Core.List.{List};
 ghost use Prim.Native.Nat.{ℕ, _+_, _*_, _<_, _≤_};
 ghost use lib.ListN.{length, getD, take};
 ghost use Rattle.bits.specs.Range.{places};
@@ -10,7 +9,7 @@ ghost use Rattle.network.specs.DontCares.{runInverted};
 ghost use Rattle.network.specs.Flat.{gatesOf};
 ghost use Rattle.network.specs.Valid.{GateOk, NetOk};
 ghost use Rattle.simulate.specs.Simulated.{wordsAt, Rows};
-ghost use Rattle.incremental.specs.Updated.{Masked, Updated};
+ghost use Rattle.incremental.specs.Updated.{Masked, Stepped};
 
 // The fan-ins of gate g as a set of signals.
 fn fanin_mask(arity: &[u8; 40], fanins: &[u8; 240], g: usize) -> u64
@@ -75,7 +74,7 @@ fn step(
     requires { ⌜ (n ≤ 10) × (h < 40) × (count ≤ 16) ⌝ }
     requires { ⌜ GateOk (now arity) (now fanins) h (n + h) ⌝ }
     requires { ⌜ length (now rows) ≡ 800 ⌝ }
-    ensures { λ r. ⌜ ((old : List ℕ) (m : ℕ) → h < m → Rows (now (arity .entry)) (now (fanins .entry)) (now (before .entry)) old n m count → Masked (now (arity .entry)) (now (fanins .entry)) (now (masks .entry)) m → Updated (now (arity .entry)) (now (fanins .entry)) (now (tables .entry)) old (now (rows .entry)) n count h changed → Updated (now (arity .entry)) (now (fanins .entry)) (now (tables .entry)) old (now (rows .exit)) n count (h + 1) r) ⌝ }
+    ensures { λ r. ⌜ Stepped (now (arity .entry)) (now (fanins .entry)) (now (before .entry)) (now (tables .entry)) (now (masks .entry)) (now (rows .entry)) (now (rows .exit)) n count h changed r ⌝ }
 {
     let t = tables[h];
     if t == before[h] {

@@ -6,8 +6,7 @@ ghost use lib.ListN.{length, getD, take, drop};
 ghost use lib.Seq.{sets};
 ghost use Rattle.network.specs.Tests.{first};
 ghost use Rattle.network.specs.Tests as tests;
-ghost use Rattle.network.specs.Load.{littleEndian, isExcluded, headerRecord, gateTests, gateRecord, outputRecord, wordsFrom, readOutputs, readGates, readBody, readOf, loadRefused};
-ghost use Rattle.network.specs.Load as file;
+ghost use Rattle.network.specs.Load.{littleEndian, isExcluded, headerRecord, gateTests, gateRecord, outputRecord, wordsFrom, readOutputs, readGates, readBody, readOf};
 ghost use Rattle.netfile.specs.Kind.{kindAt, notDue};
 use network::Answer;
 use network::Loaded;
@@ -193,35 +192,6 @@ fn put_fanins(fanins: [u8; 240], at: usize, fs: &[u8]) -> [u8; 240]
     a
 }
 
-// The session that holds nothing but the counts.
-fn started(n: u8, m: u8, p: u8) -> Session
-    ensures { λ r. ⌜ r ≡ file.started n m p ⌝ }
-{
-    Session {
-        n: n,
-        m: m,
-        p: p,
-        excluded: [0u64; 16],
-        arity: [0u8; 40],
-        fanins: [0u8; 240],
-        loaded: [0u64; 40],
-        current: [0u64; 40],
-        open_tables: [0u64; 40],
-        outputs: [0u8; 8],
-    }
-}
-
-// A refusal hands out the empty session.
-pub fn refused(r: Refusal) -> Loaded
-    ensures { λ l. ⌜ l ≡ loadRefused r ⌝ }
-{
-    let t = started(0, 0, 0);
-    Loaded {
-        answer: Answer::Refused(r),
-        session: t,
-    }
-}
-
 // The outputs, and nothing after them.
 fn outputs(t: Session, rest: &[u8]) -> Loaded
     requires { ⌜ (t .n ≤ 10) × (t .m ≤ 40) × (t .p ≤ 8) ⌝ }
@@ -235,7 +205,7 @@ fn outputs(t: Session, rest: &[u8]) -> Loaded
     while i < p {
         let a = output_record(&rest[at..], signals);
         if let Answer::Refused(r) = a {
-            return refused(r);
+            return network::refused(r);
         }
         let x = at + 2;
         u.outputs[i] = rest[x];
@@ -243,7 +213,7 @@ fn outputs(t: Session, rest: &[u8]) -> Loaded
         i += 1;
     }
     if at < rest.len() {
-        return refused(Refusal::TrailingBytes);
+        return network::refused(Refusal::TrailingBytes);
     }
     Loaded {
         answer: Answer::Done,
@@ -274,7 +244,7 @@ fn gates(t: Session, rest: &[u8]) -> Loaded
         let part = &rest[at..];
         let a = gate_record(part, n + g);
         if let Answer::Refused(r) = a {
-            return refused(r);
+            return network::refused(r);
         }
         let i = g as usize;
         let k = part[2];
@@ -300,12 +270,12 @@ fn excluded(t: Session, rest: &[u8]) -> Loaded
     let n = t.n;
     let e = 2 + network::set_bytes(n);
     if rest.len() < e {
-        return refused(Refusal::Truncated);
+        return network::refused(Refusal::Truncated);
     }
     let ws = words(&rest[2..e]);
     let a = state::excluded_test(n, ws);
     if let Answer::Refused(r) = a {
-        return refused(r);
+        return network::refused(r);
     }
     let mut u = t;
     u.excluded = ws;
@@ -330,8 +300,8 @@ pub fn read(bytes: &[u8]) -> Loaded
 {
     let a = header_record(bytes);
     if let Answer::Refused(r) = a {
-        return refused(r);
+        return network::refused(r);
     }
-    let t = started(bytes[2], bytes[3], bytes[4]);
+    let t = network::started(bytes[2], bytes[3], bytes[4]);
     body(t, &bytes[5..])
 }

@@ -2,6 +2,7 @@
 use mathlib.Core.Path.{refl}
 use mathlib.Core.List.{map}
 use Rattle.bits.specs.Bit.{bit}
+use Rattle.bits.specs.Lists.{Hold}
 use Rattle.network.specs.Net.{isGate, excluded, excludedFor, occurs, patternOrder, entry, values}
 use Rattle.network.specs.DontCares.{sdc, cdc, valuesInverted, odc, full, harms}
 use Rattle.network.specs.Compatible.{agree, constant, turns, freeFanins, atOutputs, compatibleFrom, compatible, compatibleCount, delivers, closed, openTable, openTables}
@@ -11,7 +12,7 @@ use Rattle.network.specs.State.{gateFault, stateFault, stateTest}
 use Rattle.network.specs.Load.{outputRecord, readOutputs, gateRecord, readGates, excludedRecord, readBody, headerRecord, readOf, loadOf}
 use Rattle.network.specs.Write.{headerBytes, excludedBytes, gateBytes, outputBytes, bytesOf}
 use Rattle.network.specs.Calls.{gateTest, tableTest, alters, closedTest, harmTest, exchangeAnswer, exchangeOf, verdictOf}
-use Rattle.network.specs.Cases.{Hold, marked, worked, wide, refused, readSaid, damaged}
+use Rattle.network.specs.Cases.{marked, worked, wide, refused, readSaid, damaged}
 
 pub cases-hold : Hold marked × Hold worked × Hold wide × Hold refused × Hold (map readSaid damaged)
 unfolding bit isGate excluded excludedFor occurs patternOrder entry values sdc cdc valuesInverted odc full harms agree constant turns freeFanins atOutputs compatibleFrom compatible compatibleCount delivers closed openTable openTables gateAt gatesOf netOf loadedNet currentNet markTest faninTest faninsTest excludedTest gateFault stateFault stateTest outputRecord readOutputs gateRecord readGates excludedRecord readBody headerRecord readOf loadOf headerBytes excludedBytes gateBytes outputBytes bytesOf gateTest tableTest alters closedTest harmTest exchangeAnswer exchangeOf verdictOf

@@ -10,6 +10,7 @@ use lib.Dec.{leb, ltb}
 use lib.ListN.{length, getD, take, drop, set, replicate, length-take, getD-replicate, List·getD-eq-default}
 use lib.Pow.{pow-pos}
 use lib.Seq.{getD-drop, getD-take, length-take-le, getD-set-same, getD-set-other}
+use Rattle.bits.specs.Lists.{Bytes}
 use Rattle.bits.proofs.Ranges.{lt-cases, length-places, by-cases}
 use Rattle.network.specs.declared.Session.{Session}
 use Rattle.network.specs.declared.Loaded.{Loaded}
@@ -27,10 +28,6 @@ use Rattle.network.proofs.Fresh.{Fresh}
 use Rattle.network.proofs.TestLaws.{clear-e, each-i, short-e, count-e, width-i, went}
 use Rattle.network.proofs.Valid.{GateValid, valid-i}
 use Rattle.network.proofs.Slots.{Room, room-gate, room-output, GateIs, gate-new, gate-kept}
-
--- every number is a byte
-abbrev pub Bytes : List ℕ → Type 0
-Bytes l = (i : ℕ) → getD l i 0 < 256
 
 -- a word of a session
 abbrev pub Wide : List ℕ → Type 0

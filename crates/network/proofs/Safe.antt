@@ -42,11 +42,14 @@ constant-i k table free t f =
     every-i (2 ^ k) (λ u. agree k free t u ⇒ Bool·beq (bit table t) (bit table u))
     (λ u h. imp-i (agree k free t u) (Bool·beq (bit table t) (bit table u)) (λ a. beq-i (bit table t) (bit table u) (f u h a)))
 
+-- with nothing free
+pub constant-none : (k table t : ℕ) → t < 2 ^ k → constant k table 0 t ≡ true
+constant-none k table t h = constant-i k table 0 t (λ u hu a. ap (bit table) (bit-ext k t u h hu (λ r hr. agree-e k 0 t u a r hr (bit-zero r))))
+
 -- rule 6 keeps the table constant over all that it has freed
 turns-constant : (k table t : ℕ) → t < 2 ^ k → (r : ℕ) → constant k table (turns k table t r) t ≡ true
 unfolding turns
-turns-constant k table t ht zero =
-    constant-i k table 0 t (λ u hu a. ap (bit table) (bit-ext k t u ht hu (λ r hr. agree-e k 0 t u a r hr (bit-zero r))))
+turns-constant k table t ht zero = constant-none k table t ht
 turns-constant k table t ht (suc r) =
     by-cases (constant k table (turns k table t r + 2 ^ r) t) (λ e. rw e e) (λ e. rw e (turns-constant k table t ht r))
 

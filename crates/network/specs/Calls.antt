@@ -1,14 +1,15 @@
 -- Every call of 01 but load, as a function from all that it is given to all that it leaves: the answer, the session, each word or
 -- byte of a lent buffer. Each call's tests stand in 01's order: 10 before all else, then 9, or 11, 12 and 13 or 14. Assumes nothing.
-use mathlib.Core.Bool.{Bool, not, cond, _&&_}
+use mathlib.Core.Bool.{Bool, not, _&&_}
 use mathlib.Core.List.{List, [], _∷_, _++_}
 use Prim.Native.Nat.{ℕ, zero, suc, _+_, _-_, _^_}
 use lib.Dec.{ltb}
-use lib.ListN.{length, getD, set, drop, replicate}
+use lib.ListN.{length, getD, set, replicate}
 use Rattle.bits.specs.declared.Found.{Found}
 use Rattle.bits.specs.declared.Found.the-variants.{At, Nothing}
-use Rattle.bits.specs.Range.{places, smallest}
+use Rattle.bits.specs.Range.{smallest}
 use Rattle.bits.specs.Bit.{bit, differs}
+use Rattle.bits.specs.Lists.{overwritten}
 use Rattle.network.specs.declared.Session.{Session}
 use Rattle.network.specs.declared.Exchanged.{Exchanged}
 use Rattle.network.specs.declared.Tables.{Tables}
@@ -22,7 +23,7 @@ use Rattle.network.specs.declared.Answer.{Answer}
 use Rattle.network.specs.declared.Answer.the-variants.{Done, Refused}
 use Rattle.network.specs.Net.{Net, isGate, gate, entries, patternOrder, Replacement, replaced}
 use Rattle.network.specs.DontCares.{sdc, cdc, odc, full, harms}
-use Rattle.network.specs.Compatible.{compatible, compatibleCount}
+use Rattle.network.specs.Compatible.{compatible, compatibleCount, perGate}
 use Rattle.network.specs.Flat.{loadedNet, currentNet, wordsOf}
 use Rattle.network.specs.Tests.{refuseIf, orElse, first}
 use Rattle.network.specs.State.{stateTest}
@@ -148,9 +149,6 @@ abbrev pub roomTest : ℕ → List ℕ → Answer
 roomTest needed buffer = refuseIf (ltb (length buffer) needed) BufferTooShort
 
 -- the new words or bytes from the start, the rest stays
-abbrev pub overwritten : List ℕ → List ℕ → List ℕ
-overwritten new buffer = new ++ drop (length new) buffer
-
 abbrev pub filled : Answer → List ℕ → List ℕ → Filled
 filled Done new buffer = record { answer = Done; buffer = overwritten new buffer }
 filled (Refused r) new buffer = record { answer = Refused r; buffer = buffer }
@@ -175,12 +173,23 @@ abbrev pub writeAnswer : Answer → ℕ → WriteAnswer
 writeAnswer Done n = write.Written n
 writeAnswer (Refused r) n = write.Refused r
 
+-- all that a call leaves that fills a buffer and tells how much
+pub record Written : Type 0 where
+  pub answer : WriteAnswer
+  pub buffer : List ℕ
+
+abbrev pub withLength : ℕ → Filled → Written
+withLength size f = record { answer = writeAnswer (f .answer) size; buffer = f .buffer }
+
+unfoldable pub writtenOf : Session → List ℕ → Written
+writtenOf s buffer = withLength (length (bytesOf s)) (writeOf s buffer)
+
 -- ## The number of patterns in H of each gate
 
 abbrev pub countsFor : Answer → Session → Counts
 countsFor Done s = record {
   answer = Done;
-  counts = places 40 (λ g. cond (ltb g (s .m)) (compatibleCount (loadedNet s) (s .n + g)) 0);
+  counts = perGate (s .m) (λ g. compatibleCount (loadedNet s) (s .n + g));
 }
 countsFor (Refused r) s = record { answer = Refused r; counts = replicate 40 0 }
 

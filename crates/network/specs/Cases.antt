@@ -1,9 +1,8 @@
 -- Cases of the definitions, each computed and held against what is stated: 01's (m) cases, document 004's
 -- examples, more than 64 patterns, refused calls, damaged files. A case is a pair: what the definitions give, and what is stated.
 -- Assumes nothing.
-use mathlib.Core.Path.{_≡_}
 use mathlib.Core.Bool.{Bool}
-use mathlib.Core.List.{List, [], _∷_, _++_, map}
+use mathlib.Core.List.{List, [], _∷_, _++_}
 use Prim.Native.Nat.{ℕ}
 use lib.ListN.{take, drop, set, replicate}
 use lib.Seq.{sets}
@@ -75,10 +74,6 @@ abbrev pub wideNet : Net
 wideNet = loadedNet wideSession
 
 -- ## Words for the cases
-
--- each case of the table holds
-abbrev pub Hold : List (List ℕ × List ℕ) → Type 0
-Hold cases = map (λ c. c .0) cases ≡ map (λ c. c .1) cases
 
 -- all numbers of a session, one after the other
 abbrev pub numbers : Session → List ℕ

@@ -72,6 +72,10 @@ closed N s t = any (patterns N) (λ x. not (compatible N s x) && delivers N s x 
 unfoldable pub openTable : Net → ℕ → ℕ
 openTable N s = tableOf (entries N s) (λ t. not (closed N s t))
 
--- the open tables of all gates, in 40 places
+-- in 40 places, one for each of m gates: what p says, and 0 past the last
+abbrev pub perGate : (m : ℕ) (p : ℕ → ℕ) → List ℕ
+perGate m p = places 40 (λ g. cond (ltb g m) (p g) 0)
+
+-- the open tables of all gates
 unfoldable pub openTables : Net → List ℕ
-openTables N = places 40 (λ g. cond (ltb g (length (N .gates))) (openTable N (N .inputs + g)) 0)
+openTables N = perGate (length (N .gates)) (λ g. openTable N (N .inputs + g))

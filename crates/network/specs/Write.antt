@@ -1,17 +1,13 @@
 -- The bytes of a session: 01, 'The file'. The current tables are written; the excluded set is left out where it is empty. Assumes nothing.
 use mathlib.Core.Bool.{Bool, true, cond, _&&_}
 use mathlib.Core.List.{List, [], _∷_, _++_}
-use Prim.Native.Nat.{ℕ, zero, suc, _+_, _/_, _%_}
+use Prim.Native.Nat.{ℕ, zero, suc, _+_}
 use lib.Dec.{eqb}
 use lib.ListN.{getD, take}
+use Rattle.bits.specs.Lists.{bytesIn}
 use Rattle.network.specs.declared.Session.{Session}
 use Rattle.network.specs.State.{arityOf, faninsOf}
 use Rattle.network.specs.Load.{setBytes}
-
--- the c lowest bytes of a number, the lowest first
-abbrev pub bytesIn : ℕ → ℕ → List ℕ
-bytesIn zero x = []
-bytesIn (suc c) x = x % 256 ∷ bytesIn c (x / 256)
 
 abbrev pub wordBytes : List ℕ → List ℕ
 wordBytes [] = []

@@ -1,6 +1,7 @@
 ghost use mathlib.Core.Path.{_≡_};
 ghost use Prim.Native.Nat.{_≤_};
-ghost use Rattle.network.specs.Load.{setBytes};
+ghost use Rattle.network.specs.Load.{setBytes, loadRefused};
+ghost use Rattle.network.specs.Load as file;
 ghost use Rattle.network.specs.Refusals.{numberOf};
 
 // A session: the loaded and the current network in flat arrays, and the open tables that the load gave.
@@ -76,6 +77,35 @@ pub enum WriteAnswer {
 pub struct Counts {
     pub answer: Answer,
     pub counts: [u64; 40],
+}
+
+// The session that holds nothing but the counts.
+pub fn started(n: u8, m: u8, p: u8) -> Session
+    ensures { λ r. ⌜ r ≡ file.started n m p ⌝ }
+{
+    Session {
+        n: n,
+        m: m,
+        p: p,
+        excluded: [0u64; 16],
+        arity: [0u8; 40],
+        fanins: [0u8; 240],
+        loaded: [0u64; 40],
+        current: [0u64; 40],
+        open_tables: [0u64; 40],
+        outputs: [0u8; 8],
+    }
+}
+
+// A refusal hands out the empty session.
+pub fn refused(r: Refusal) -> Loaded
+    ensures { λ l. ⌜ l ≡ loadRefused r ⌝ }
+{
+    let t = started(0, 0, 0);
+    Loaded {
+        answer: Answer::Refused(r),
+        session: t,
+    }
 }
 
 // A number of a byte array as a place.

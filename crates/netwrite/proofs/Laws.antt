@@ -1,81 +1,25 @@
--- Bytes laid one stretch after the other, and how long the records are. Assumes nothing.
+-- The records of a file, laid one after the other, and how long they are. Assumes nothing.
 use mathlib.Core.Path.{_≡_, refl, ap, _∙_}
 use mathlib.Core.Bool.{true, false}
 use mathlib.Core.List.{List, [], _∷_, _++_}
-use Prim.Native.Nat.{ℕ, zero, suc, _+_, _*_, _-_, _/_, _%_, _≤_, _<_}
+use Prim.Native.Nat.{ℕ, zero, suc, _+_, _*_, _-_, _≤_, _<_}
 use native.Mathlib.Numerals.{add-one}
-use native.Mathlib.Nat.{add-zero}
 use native.Mathlib.Omega.{arith}
 use lib.Dec.{eqb}
-use lib.ListN.{length, getD, take, drop, set, length-append, length-drop}
-use lib.Seq.{sets, sets-eq, take-append-add, take-suc, drop-cons, getD-drop, length-sets, length-take-le}
-use Rattle.bits.specs.Range.{places}
+use lib.ListN.{length, getD, take, drop, length-append}
+use lib.Seq.{take-append-add, drop-cons, length-take-le}
+use Rattle.bits.specs.Lists.{bytesIn}
 use Rattle.bits.proofs.Ranges.{length-places}
+use Rattle.bits.proofs.Bytes.{take-bytes}
+use Rattle.buffer.specs.Laid.{Laid}
+use Rattle.buffer.proofs.Laying.{Left, left-start, left-step, laid-append, part-places}
 use Rattle.network.specs.declared.Session.{Session}
 use Rattle.network.specs.State.{arityOf, faninsOf}
 use Rattle.network.specs.Load.{setBytes}
-use Rattle.network.specs.Write.{bytesIn, wordBytes, allZero, headerBytes, excludedBytes, gateBytes, gatesBytes, outputBytes, outputsBytes, bytesOf}
-use Rattle.network.specs.Calls.{overwritten}
-use Rattle.network.proofs.Bytes.{take-bytes, length-words}
-use Rattle.netwrite.specs.Laid.{Room, Laid}
+use Rattle.network.specs.Write.{wordBytes, allZero, headerBytes, excludedBytes, gateBytes, gatesBytes, outputBytes, outputsBytes, bytesOf}
+use Rattle.network.proofs.Bytes.{length-words}
 
--- ## One stretch after the other
-
-sets-append : (us l vs : List ℕ) (i : ℕ) → sets (sets l i us) (i + length us) vs ≡ sets l i (us ++ vs)
-sets-append [] l vs i = rw add-zero
-sets-append (u ∷ us) l vs i =
-    let q : i + suc (length us) ≡ suc i + length us = omega arith in
-    rw q (sets-append us (set l i u) vs (suc i))
-
-pub laid-append : {b b₁ b₂ xs ys : List ℕ} {at r₁ r₂ : ℕ} → Laid b at xs b₁ r₁ → Laid b₁ r₁ ys b₂ r₂ → Laid b at (xs ++ ys) b₂ r₂
-laid-append {b} {b₁} {b₂} {xs} {ys} {at} f s = record {
-  buffer = s .buffer ∙ rw (f .buffer, f .behind) (sets-append xs b ys at);
-  behind = let n = length-append xs ys in let p = f .behind in let q = s .behind in omega arith;
-}
-
--- a buffer keeps its length
-pub laid-length : {b b₁ xs : List ℕ} {at r : ℕ} → Laid b at xs b₁ r → length b₁ ≡ length b
-laid-length {b} {b₁} {xs} {at} l = ap length (l .buffer) ∙ length-sets b at xs
-
--- with `rest` laid into b from place a on, all of `whole` stands in b₀ from place `at` on
-pub record Left (b₀ : List ℕ) (at : ℕ) (whole b : List ℕ) (a : ℕ) (rest : List ℕ) : Type 0 where
-  pub long : length b ≡ length b₀
-  pub place : a + length rest ≡ at + length whole
-  pub same : sets b a rest ≡ sets b₀ at whole
-
-pub left-start : (b whole : List ℕ) (at : ℕ) → Left b at whole b at whole
-left-start b whole at = record { long = refl; place = refl; same = refl }
-
-pub left-step : {b₀ whole b xs b₁ todo : List ℕ} {at a r : ℕ} (rest : List ℕ) → Left b₀ at whole b a todo → todo ≡ xs ++ rest → Laid b a xs b₁ r
-    → Left b₀ at whole b₁ r rest
-left-step {b₀} {whole} {b} {xs} {b₁} {todo} {at} {a} {r} rest l e n = record {
-  long = laid-length n ∙ l .long;
-  place = let p = l .place in let q = n .behind in let k = ap length e ∙ length-append xs rest in omega arith;
-  same = rw (n .buffer, n .behind, sets-append xs b rest a, ← e) (l .same);
-}
-
-pub left-room : {b₀ whole b todo : List ℕ} {at a : ℕ} (xs rest : List ℕ) → Left b₀ at whole b a todo → todo ≡ xs ++ rest → Room b₀ at whole → Room b a xs
-left-room xs rest l e h = let p = l .place in let q = l .long in let k = ap length e ∙ length-append xs rest in omega arith
-
-pub left-done : {b₀ whole b todo : List ℕ} {at a : ℕ} → Left b₀ at whole b a todo → todo ≡ [] → Laid b₀ at whole b a
-left-done l e = record { buffer = rw e at (l .same); behind = let p = l .place in let k = ap length e in omega arith }
-
--- one byte
-pub stored : (b : List ℕ) (a x v : ℕ) → v ≡ x → Laid b a (x ∷ []) (set b a v) (a + 1)
-stored b a x v e = record { buffer = rw e; behind = refl }
-
--- a file at the buffer's start
-pub laid-start : (buffer bytes after : List ℕ) (r : ℕ) → length bytes ≤ length buffer → Laid buffer 0 bytes after r
-    → (r ≡ length bytes) × (after ≡ overwritten bytes buffer)
-laid-start buffer bytes after r h l =
-    let p = l .behind in
-    let q : 0 + length bytes ≡ length bytes = omega arith in
-    (omega arith, l .buffer ∙ rw q at (sets-eq bytes buffer 0 (omega arith)))
-
--- ## Numbers and words
-
-pub bytes-next : (c x : ℕ) → 0 < c → bytesIn c x ≡ x % 256 ∷ bytesIn (c - 1) (x / 256)
-bytes-next c x h = let q : c ≡ suc (c - 1) = omega arith in ap (λ (k : ℕ). bytesIn k x) q
+-- ## Words
 
 -- a whole word
 pub words-next : (ws : List ℕ) (left w : ℕ) → 8 ≤ left → w < length ws
@@ -118,13 +62,6 @@ pub excluded-laid : {b b₁ b₂ : List ℕ} {at r₁ r₂ : ℕ} (s : Session) 
 excluded-laid s z e q m w = rw (excluded-some s e) (laid-append m (rw q at w))
 
 -- ## Gates and outputs
-
--- a part of a list, place by place
-pub part-places : (l : List ℕ) (b k : ℕ) → b + k ≤ length l → take k (drop b l) ≡ places k (λ r. getD l (b + r) 0)
-part-places l b zero h = refl
-part-places l b (suc k) h =
-    let n = length-drop b l in
-    rw (take-suc (drop b l) k 0 (omega arith), part-places l b k (omega arith), getD-drop b l k 0)
 
 pub length-gate : (s : Session) (g : ℕ) → length (gateBytes s g) ≡ arityOf s g + 5
 unfolding gateBytes

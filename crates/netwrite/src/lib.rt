@@ -1,53 +1,15 @@
 // The bytes of a network, written into a lent buffer record after record.
 ghost use mathlib.Core.Path.{_≡_};
-ghost use Prim.Native.Nat.{_+_, _%_, _<_, _≤_};
+ghost use Prim.Native.Nat.{_+_, _<_, _≤_};
 ghost use lib.ListN.{length, take};
+ghost use Rattle.bits.specs.Lists.{overwritten};
+ghost use Rattle.buffer.specs.Laid.{Room, Laid};
 ghost use Rattle.network.specs.declared.Answer.the-variants.{Done};
 ghost use Rattle.network.specs.State.{arityOf, stateFault};
-ghost use Rattle.network.specs.Write.{bytesIn, wordBytes, allZero, excludedBytes, gateBytes, gatesBytes, outputsBytes, bytesOf};
-ghost use Rattle.network.specs.Calls.{overwritten};
-ghost use Rattle.netwrite.specs.Laid.{Room, Laid};
+ghost use Rattle.network.specs.Write.{wordBytes, allZero, excludedBytes, gateBytes, gatesBytes, outputsBytes, bytesOf};
 use network::Session;
 
-// Each function that lays bytes does so from place at on and returns the place behind them.
-
-pub fn copy(buf: &mut [u8], at: usize, bytes: &[u8]) -> usize
-    requires { ⌜ Room (now buf) at (now bytes) ⌝ }
-    ensures { λ r. ⌜ Laid (now (buf .entry)) at (now (bytes .entry)) (now (buf .exit)) r ⌝ }
-{
-    let mut a = at;
-    let mut i: usize = 0;
-    while i < bytes.len() {
-        buf[a] = bytes[i];
-        a += 1;
-        i += 1;
-    }
-    a
-}
-
-// The lowest byte.
-fn low(x: u64) -> u8
-    ensures { λ r. ⌜ r ≡ x % 256 ⌝ }
-{
-    (x % 256) as u8
-}
-
-// The c lowest bytes of x, the lowest first.
-fn put_bytes(buf: &mut [u8], at: usize, x: u64, c: usize) -> usize
-    requires { ⌜ at + c ≤ length (now buf) ⌝ }
-    ensures { λ r. ⌜ Laid (now (buf .entry)) at (bytesIn c x) (now (buf .exit)) r ⌝ }
-{
-    let mut a = at;
-    let mut y = x;
-    let mut left = c;
-    while 0 < left {
-        buf[a] = low(y);
-        a += 1;
-        y = y / 256;
-        left -= 1;
-    }
-    a
-}
+// Each function that puts bytes does so from place at on and returns the place behind them.
 
 // The first z bytes of the words.
 fn put_words(buf: &mut [u8], at: usize, words: [u64; 16], z: usize) -> usize
@@ -58,12 +20,12 @@ fn put_words(buf: &mut [u8], at: usize, words: [u64; 16], z: usize) -> usize
     let mut left = z;
     let mut w: usize = 0;
     while 8 <= left {
-        a = put_bytes(buf, a, words[w], 8);
+        a = buffer::put_bytes(buf, a, words[w], 8);
         left -= 8;
         w += 1;
     }
     if 0 < left {
-        return put_bytes(buf, a, words[w], left);
+        return buffer::put_bytes(buf, a, words[w], left);
     }
     a
 }
@@ -91,7 +53,7 @@ fn put_excluded(buf: &mut [u8], at: usize, s: Session) -> usize
         return at;
     }
     let mark = [0x4E, 0x58];
-    let a = copy(buf, at, &mark);
+    let a = buffer::copy(buf, at, &mark);
     put_words(buf, a, words, network::set_bytes(s.n))
 }
 
@@ -105,9 +67,9 @@ fn put_gate(buf: &mut [u8], at: usize, s: Session, g: usize) -> usize
     let b = 6 * g;
     let e = b + (k as usize);
     let opening = [0x4E, 0x47, k];
-    let a = copy(buf, at, &opening);
-    let d = copy(buf, a, &fanins[b..e]);
-    put_bytes(buf, d, table, 2)
+    let a = buffer::copy(buf, at, &opening);
+    let d = buffer::copy(buf, a, &fanins[b..e]);
+    buffer::put_bytes(buf, d, table, 2)
 }
 
 fn put_gates(buf: &mut [u8], at: usize, s: Session) -> usize
@@ -134,7 +96,7 @@ fn put_outputs(buf: &mut [u8], at: usize, s: Session) -> usize
     while i < p {
         let x = s.outputs[i];
         let output = [0x4E, 0x4F, x];
-        a = copy(buf, a, &output);
+        a = buffer::copy(buf, a, &output);
         i += 1;
     }
     a
@@ -182,7 +144,7 @@ pub fn write_bytes(s: Session, buf: &mut [u8]) -> usize
     ensures { λ r. ⌜ (r ≡ length (bytesOf s)) × (now (buf .exit) ≡ overwritten (bytesOf s) (now (buf .entry))) ⌝ }
 {
     let header = [0x4E, 0x49, s.n, s.m, s.p];
-    let a = copy(buf, 0, &header);
+    let a = buffer::copy(buf, 0, &header);
     let b = put_excluded(buf, a, s);
     let c = put_gates(buf, b, s);
     put_outputs(buf, c, s)

@@ -20,6 +20,7 @@ use Rattle.bits.proofs.Ranges.{length-places, places-at, every-ext, column-at, 
 use Rattle.network.specs.Net.{Gate, entry, run, values}
 use Rattle.network.specs.DontCares.{runInverted, valuesInverted, odc}
 use Rattle.network.specs.Flat.{gatesOf, netOf}
+use Rattle.network.proofs.Earlier.{run-keep}
 use Rattle.observability.specs.Odc.{Taken}
 use Rattle.simulate.specs.Simulated.{wordsAt, valueAt}
 use Rattle.simulate.proofs.RowLaws.{words-at, words-long}
@@ -95,12 +96,6 @@ longer vs v i h =
     ∙ getD-take (suc i) vs i false (omega arith)
 
 -- the values that are there stay
-run-keeps : (gs : List Gate) (vs : List Bool) (i : ℕ) → i < length vs → getD (run vs gs) i false ≡ getD vs i false
-run-keeps [] vs i h = refl
-run-keeps (g ∷ gs) vs i h =
-    let v = bit (g .table) (entry vs g) in
-    run-keeps gs (vs ++ v ∷ []) i (omega (arith, length-append vs (v ∷ []))) ∙ longer vs v i h
-
 inverted-keeps : (s : ℕ) (gs : List Gate) (vs : List Bool) (i : ℕ) → i < length vs → getD (runInverted s vs gs) i false ≡ getD vs i false
 inverted-keeps s [] vs i h = refl
 inverted-keeps s (g ∷ gs) vs i h =
@@ -117,7 +112,7 @@ before-inverted s (g ∷ gs) vs i h = go (ℕ-discrete (length vs) s) (before-in
 
     go : Dec (length vs ≡ s) → getD (runInverted s (vs ++ v ∷ []) gs) i false ≡ getD (run (vs ++ v ∷ []) gs) i false
         → getD (runInverted s vs (g ∷ gs)) i false ≡ getD (run vs (g ∷ gs)) i false
-    go (yes e) next = inverted-keeps s (g ∷ gs) vs i (omega arith) ∙ sym (run-keeps (g ∷ gs) vs i (omega arith))
+    go (yes e) next = inverted-keeps s (g ∷ gs) vs i (omega arith) ∙ sym (run-keep (g ∷ gs) vs i (omega arith))
     go (no n) next = ap (λ (c : Bool). getD (runInverted s (vs ++ differs c v ∷ []) gs) i false) (ne-eqb (length vs) s n) ∙ next
 
 -- once they are taken back from the inverted gate on, the words are those of the values

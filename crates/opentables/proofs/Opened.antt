@@ -12,7 +12,7 @@ use Rattle.bits.proofs.Ranges.{any-ext, table-ext, map-places}
 use Rattle.network.specs.declared.Session.{Session}
 use Rattle.network.specs.declared.Answer.the-variants.{Done}
 use Rattle.network.specs.Net.{Gate, Net, arity, entry, values}
-use Rattle.network.specs.Compatible.{agree, compatible, delivers, closed, openTable, openTables}
+use Rattle.network.specs.Compatible.{agree, compatible, delivers, closed, openTable, openTables, perGate}
 use Rattle.network.specs.Flat.{gateAt, netOf, loadedNet}
 use Rattle.network.specs.State.{stateFault}
 use Rattle.network.specs.Valid.{NetOk}
@@ -21,7 +21,7 @@ use Rattle.network.proofs.Earlier.{gate-is}
 use Rattle.network.proofs.Valid.{net-ok}
 use Rattle.simulate.specs.Simulated.{Simulated, wordsAt, Rows}
 use Rattle.entries.proofs.By.{by-rest}
-use Rattle.compatible.specs.Words.{SetRows, LoadedRows, perGate}
+use Rattle.compatible.specs.Words.{SetRows, LoadedRows}
 use Rattle.compatible.proofs.SetLaws.{value-at}
 use Rattle.compatible.proofs.Stores.{per-gate-ext}
 use Rattle.opentables.specs.Closed.{closes, closesAt, closedBy, openBy}

@@ -1,12 +1,12 @@
 // Rule 7: open tables of the loaded network, from the rows of the values and of H.
 ghost use mathlib.Core.Path.{_≡_};
 ghost use Prim.Native.Nat.{_+_, _*_, _<_, _≤_};
-ghost use Rattle.network.specs.Compatible.{compatibleCount, openTables};
+ghost use Rattle.network.specs.Compatible.{compatibleCount, openTables, perGate};
 ghost use Rattle.network.specs.Flat.{loadedNet};
 ghost use Rattle.network.specs.State.{stateFault};
 ghost use Rattle.network.specs.Valid.{GateOk};
 ghost use Rattle.simulate.specs.Simulated.{wordsAt};
-ghost use Rattle.compatible.specs.Words.{LoadedRows, perGate};
+ghost use Rattle.compatible.specs.Words.{LoadedRows};
 ghost use Rattle.opentables.specs.Closed.{closedIn, closedBy};
 use network::Answer;
 use network::Session;

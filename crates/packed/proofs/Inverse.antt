@@ -9,6 +9,7 @@ use lib.Dec.{ltb}
 use lib.ListN.{length, getD, take, drop, set, length-append, length-set, take-append-drop}
 use lib.Seq.{length-take-le, getD-set-other, drop-set-lt}
 use borrow.Author.Tests.{ltb-false}
+use Rattle.bits.specs.Lists.{overwritten}
 use Rattle.bits.proofs.Ranges.{every-i}
 use Rattle.network.specs.declared.Session.{Session}
 use Rattle.network.specs.declared.Refusal.the-variants.{BufferTooShort}
@@ -17,7 +18,7 @@ use Rattle.network.specs.declared.Answer.the-variants.{Done, Refused}
 use Rattle.network.specs.State.{stateTest}
 use Rattle.network.specs.Load.{loadDone, onward}
 use Rattle.network.specs.Valid.{Shaped}
-use Rattle.network.specs.Calls.{withCurrent, roomTest, overwritten}
+use Rattle.network.specs.Calls.{withCurrent, roomTest}
 use Rattle.network.proofs.TestLaws.{passed, clear-e}
 use Rattle.packed.specs.Packed.{bytesHeld, wordsHeld, packedOf, Narrow, sessionWords, byteWords, sessionIn, bytesTest, wordsTest, unpackOf}
 use Rattle.packed.proofs.Laws.{length-bytes, length-words, reads, tested}

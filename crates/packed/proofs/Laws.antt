@@ -1,4 +1,4 @@
--- Numbers laid and read place after place, and tested one after the other. Assumes nothing.
+-- Words read place after place, and tested one after the other. Assumes nothing.
 use mathlib.Core.Path.{_≡_, refl, sym, ap, _∙_}
 use mathlib.Core.Bool.{Bool, true, false, _&&_}
 use mathlib.Core.List.{List, [], _∷_, _++_, append-assoc, append-nil}
@@ -7,8 +7,8 @@ use native.Mathlib.Numerals.{add-one}
 use native.Mathlib.Omega.{arith}
 use lib.Bits.{bitOr, or-lt, or-add-and, and-le-l, and-le-r}
 use lib.Dec.{ltb}
-use lib.ListN.{length, getD, take, drop, set, length-append, length-drop, drop-of-length-le}
-use lib.Seq.{take-suc, drop-cons, drop-length, getD-drop, set-at, length-take-le, sets}
+use lib.ListN.{length, getD, take, drop, set, length-append, length-drop}
+use lib.Seq.{take-suc, drop-cons, drop-length, getD-drop, set-at, length-take-le}
 use borrow.Author.Tests.{lt-ltb, le-ltb, ltb-true}
 use Rattle.bits.specs.Range.{every}
 use Rattle.bits.proofs.Ranges.{and-l, and-r, and-i, and-true, and-assoc, iff}
@@ -19,38 +19,7 @@ use Rattle.network.specs.State.{stateTest}
 use Rattle.network.specs.Valid.{Shaped}
 use Rattle.network.specs.Load.{loadDone, loadRefused, onward}
 use Rattle.network.proofs.TestLaws.{alone}
-use Rattle.netwrite.specs.Laid.{Room, Laid}
-use Rattle.netwrite.proofs.Laws.{Left, left-step, left-room, left-done, laid-append, stored}
 use Rattle.packed.specs.Packed.{bytesHeld, wordsHeld, byteWords, part, sessionIn, allBytes, bytesTest, wordsTest, unpackOf}
-
--- ## Laying: xs from place `at` on; its first i numbers are laid, the next goes to place a
-
-laid : {b₁ : List ℕ} {r : ℕ} (b xs : List ℕ) (at : ℕ) → b₁ ≡ sets b at xs → r ≡ at + length xs → Laid b at xs b₁ r
-laid b xs at e p = record { buffer = e; behind = p }
-
-module _ {b₀ xs b : List ℕ} {at a : ℕ} (i : ℕ) (l : Left b₀ at xs b a (drop i xs)) where
-  rest : i < length xs → drop i xs ≡ (getD xs i 0 ∷ []) ++ drop (i + 1) xs
-  rest h = rw add-one (drop-cons xs i 0 h)
-
-  pub lay-place : i < length xs → Room b₀ at xs → a < length b
-  lay-place h r = let k : a + 1 ≤ length b = left-room (getD xs i 0 ∷ []) (drop (i + 1) xs) l (rest h) r in omega arith
-
-  pub lay-more : i < length xs → Left b₀ at xs (set b a (getD xs i 0)) (a + 1) (drop (i + 1) xs)
-  lay-more h = left-step (drop (i + 1) xs) l (rest h) (stored b a (getD xs i 0) (getD xs i 0) refl)
-
-  pub lay-all : length xs ≤ i → b ≡ sets b₀ at xs
-  lay-all h = left-done l (drop-of-length-le xs h) .buffer
-
--- four stretches, one behind the other
-pub lay-four : {b₁ b₂ b₃ b₄ : List ℕ} (b ws xs ys zs : List ℕ) (at i j k : ℕ)
-    → b₁ ≡ sets b at ws → b₂ ≡ sets b₁ i xs → b₃ ≡ sets b₂ j ys → b₄ ≡ sets b₃ k zs
-    → i ≡ at + length ws → j ≡ i + length xs → k ≡ j + length ys
-    → b₄ ≡ sets b at (ws ++ xs ++ ys ++ zs)
-lay-four {b₁} {b₂} {b₃} b ws xs ys zs at i j k e f g h p q r =
-    laid-append (laid-append (laid-append (laid b ws at e p) (laid b₁ xs i f q)) (laid b₂ ys j g r)) (laid b₃ zs k h refl) .buffer
-
-pub lay-two : {b₁ b₂ : List ℕ} (b xs ys : List ℕ) (at i : ℕ) → b₁ ≡ sets b at xs → b₂ ≡ sets b₁ i ys → i ≡ at + length xs → b₂ ≡ sets b at (xs ++ ys)
-lay-two {b₁} b xs ys at i e f p = laid-append (laid b xs at e p) (laid b₁ ys i f refl) .buffer
 
 -- ## Reading: the words from place `at` on into b₀, of which the first i are read
 

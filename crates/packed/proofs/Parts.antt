@@ -8,9 +8,9 @@ use lib.Dec.{ltb}
 use lib.ListN.{length, getD, take, drop, set, List·getD-append}
 use lib.Seq.{take-add, take-at, drop-at, drop-drop, take-set-le, take-set-lt, drop-set-lt, drop-set-add}
 use borrow.Author.Tests.{lt-ltb}
+use Rattle.bits.specs.Lists.{Bytes}
 use Rattle.network.specs.declared.Session.{Session}
 use Rattle.network.specs.Valid.{Shaped}
-use Rattle.network.proofs.Reached.{Bytes}
 use Rattle.packed.specs.Packed.{bytesHeld, wordsHeld, packedOf, Narrow, part}
 use Rattle.packed.proofs.Laws.{length-bytes}
 

@@ -5,8 +5,8 @@ ghost use lib.Dec.{ltb};
 ghost use lib.ListN.{length, getD, set};
 ghost use lib.Seq.{sets};
 ghost use Rattle.bits.specs.Range.{every};
-ghost use Rattle.network.specs.Calls.{withCurrent, overwritten};
-ghost use Rattle.netwrite.specs.Laid.{Room};
+ghost use Rattle.bits.specs.Lists.{overwritten};
+ghost use Rattle.network.specs.Calls.{withCurrent};
 ghost use Rattle.packed.specs.Packed.{bytesHeld, wordsHeld, packedOf, sessionWords, part, sessionIn, unpackOf};
 use network::Answer;
 use network::Loaded;
@@ -20,33 +20,6 @@ pub fn session_words() -> usize
     427
 }
 
-// Numbers laid into the words from place at on.
-fn lay_bytes(words: &mut [u64], at: usize, bytes: &[u8])
-    requires { ⌜ Room (now words) at (now bytes) ⌝ }
-    ensures { λ _. ⌜ now (words .exit) ≡ sets (now (words .entry)) at (now (bytes .entry)) ⌝ }
-{
-    let mut a = at;
-    let mut i: usize = 0;
-    while i < bytes.len() {
-        words[a] = bytes[i] as u64;
-        a += 1;
-        i += 1;
-    }
-}
-
-pub fn lay_words(words: &mut [u64], at: usize, new: &[u64])
-    requires { ⌜ Room (now words) at (now new) ⌝ }
-    ensures { λ _. ⌜ now (words .exit) ≡ sets (now (words .entry)) at (now (new .entry)) ⌝ }
-{
-    let mut a = at;
-    let mut i: usize = 0;
-    while i < new.len() {
-        words[a] = new[i];
-        a += 1;
-        i += 1;
-    }
-}
-
 // What a session holds in bytes.
 fn pack_bytes(s: Session, words: &mut [u64])
     requires { ⌜ 427 ≤ length (now words) ⌝ }
@@ -56,10 +29,10 @@ fn pack_bytes(s: Session, words: &mut [u64])
     let arity = s.arity;
     let fanins = s.fanins;
     let outputs = s.outputs;
-    lay_bytes(words, 0, &counts);
-    lay_bytes(words, 3, &arity);
-    lay_bytes(words, 43, &fanins);
-    lay_bytes(words, 283, &outputs);
+    buffer::lay_bytes(words, 0, &counts);
+    buffer::lay_bytes(words, 3, &arity);
+    buffer::lay_bytes(words, 43, &fanins);
+    buffer::lay_bytes(words, 283, &outputs);
 }
 
 // What it holds in words.
@@ -71,10 +44,10 @@ fn pack_words(s: Session, words: &mut [u64])
     let loaded = s.loaded;
     let current = s.current;
     let opens = s.open_tables;
-    lay_words(words, 291, &excluded);
-    lay_words(words, 307, &loaded);
-    lay_words(words, 347, &current);
-    lay_words(words, 387, &opens);
+    buffer::lay_words(words, 291, &excluded);
+    buffer::lay_words(words, 307, &loaded);
+    buffer::lay_words(words, 347, &current);
+    buffer::lay_words(words, 387, &opens);
 }
 
 // The session from the start of the words; the words behind it stay.
@@ -171,15 +144,15 @@ pub fn unpack(words: &[u64]) -> Loaded
     ensures { λ r. ⌜ r ≡ unpackOf (now (words .entry)) ⌝ }
 {
     if words.len() < 427 {
-        return netfile::refused(Refusal::BufferTooShort);
+        return network::refused(Refusal::BufferTooShort);
     }
     if !fit(words, 291) {
-        return netfile::refused(Refusal::InvalidState);
+        return network::refused(Refusal::InvalidState);
     }
     let s = session_in(words);
     let v = state::state_test(s);
     if let Answer::Refused(r) = v {
-        return netfile::refused(r);
+        return network::refused(r);
     }
     Loaded {
         answer: Answer::Done,

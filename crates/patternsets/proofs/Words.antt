@@ -7,12 +7,13 @@ use native.Mathlib.Nat.{zero-mul, suc-mul}
 use native.Mathlib.Omega.{arith}
 use lib.ListN.{length, getD, drop, length-append}
 use Rattle.bits.specs.Cut.{wordCount}
+use Rattle.bits.specs.Lists.{overwritten}
 use Rattle.bits.proofs.Ranges.{length-places, places-ext}
 use Rattle.network.specs.declared.Session.{Session}
 use Rattle.network.specs.DontCares.{odc}
 use Rattle.network.specs.Compatible.{compatible}
 use Rattle.network.specs.Flat.{loadedNet, currentNet, wordOf, wordsOf}
-use Rattle.network.specs.Calls.{setWords, overwritten}
+use Rattle.network.specs.Calls.{setWords}
 use Rattle.patternsets.specs.Stretches.{row, stretches}
 
 -- the places of each gate g below m hold the words of the set p g

@@ -4,6 +4,9 @@ use mathlib.Core.List.{List, _++_}
 use Prim.Native.Nat.{ℕ, zero, suc, _+_, _*_, _≤_}
 use native.Mathlib.Omega.{arith}
 use lib.ListN.{length, length-append}
+use Rattle.buffer.specs.Laid.{Laid}
+use Rattle.text.specs.Fields.{number}
+use Rattle.text.proofs.Digits.{length-number}
 use Rattle.network.specs.declared.Answer.{Answer}
 use Rattle.network.specs.declared.Answer.the-variants.{Done, Refused}
 use Rattle.network.specs.Net.{Net}
@@ -15,10 +18,8 @@ use Rattle.network.specs.Load.{loadOf}
 use Rattle.network.specs.Calls.{Filled}
 use Rattle.network.proofs.Valid.{net-ok}
 use Rattle.network.proofs.Exchanges.{loaded-length}
-use Rattle.netwrite.specs.Laid.{Laid}
 use Rattle.render.specs.Listing.{header, totals, refusedLine, gateRow, rows, setEntries, listingOfNet, listingOf, ListingLength, ListingRoom}
-use Rattle.render.specs.Text.{number}
-use Rattle.render.proofs.Laws.{length-number, length-row, length-totals}
+use Rattle.render.proofs.Laws.{length-row, length-totals}
 use Rattle.render.proofs.Shown.{fresh, listing-loaded, listing-refused, into-done}
 
 length-refused : (r : ℕ) → length (refusedLine r) ≤ 1042

@@ -11,8 +11,11 @@ use lib.Seq.{take-append-le, take-length}
 use borrow.Author.Tests.{lt-ltb, le-ltb}
 use Rattle.bits.specs.Range.{count}
 use Rattle.bits.specs.Bit.{bit}
+use Rattle.bits.specs.Lists.{overwritten}
 use Rattle.bits.proofs.Ranges.{places-at}
 use Rattle.bits.proofs.Cuts.{count-le}
+use Rattle.buffer.specs.Laid.{Laid}
+use Rattle.buffer.proofs.Laying.{laid-start}
 use Rattle.network.specs.declared.Session.{Session}
 use Rattle.network.specs.declared.Loaded.{Loaded}
 use Rattle.network.specs.declared.Answer.the-variants.{Done, Refused}
@@ -20,22 +23,19 @@ use Rattle.network.specs.declared.Refusal.{Refusal}
 use Rattle.network.specs.declared.Refusal.the-variants.{BufferTooShort}
 use Rattle.network.specs.Net.{Net, patterns}
 use Rattle.network.specs.DontCares.{cdc, full}
-use Rattle.network.specs.Compatible.{compatible, compatibleCount, openTable, openTables}
+use Rattle.network.specs.Compatible.{compatible, compatibleCount, openTable, openTables, perGate}
 use Rattle.network.specs.Flat.{loadedNet, currentNet}
 use Rattle.network.specs.Refusals.{numberOf}
 use Rattle.network.specs.Load.{loadOf}
 use Rattle.network.specs.State.{stateFault}
-use Rattle.network.specs.Calls.{overwritten, countsOf}
+use Rattle.network.specs.Calls.{countsOf}
 use Rattle.network.proofs.Valid.{state-i}
 use Rattle.network.proofs.Fresh.{Fresh}
 use Rattle.network.proofs.Reached.{loaded-fresh}
 use Rattle.network.proofs.Exchanges.{loaded-length, loaded-inputs}
-use Rattle.compatible.specs.Words.{perGate}
 use Rattle.dontcares.specs.Tabled.{Tabled}
 use Rattle.engine.specs.declared.Counted.{Counted}
 use Rattle.engine.specs.Counted.{countedOf}
-use Rattle.netwrite.specs.Laid.{Laid}
-use Rattle.netwrite.proofs.Laws.{laid-start}
 use Rattle.render.specs.declared.Columns.{Columns}
 use Rattle.render.specs.Listing.{rows, setEntries, refusedLine, listingOfNet, listingOf, listingInto}
 use Rattle.render.specs.Text.{rowsAt, textOf, Ready}
@@ -90,7 +90,7 @@ counts-of s e = rw (state-i s e)
 
 module _ (s : Session) (t : Columns) (valid : stateFault s ≡ Done) (same : s .current ≡ s .loaded) (held : s .open_tables ≡ openTables (loadedNet s))
     (few : s .m ≤ 40) (en : t .n ≡ s .n) (em : t .m ≡ s .m)
-    (k : Tabled (currentNet s) (t .cdc) (t .full) (s .n) (s .m))
+    (k : Tabled (currentNet s) (t .cdc) (t .full) (s .n) 0 (s .m))
     (eo : t .opens ≡ s .open_tables) (eh : t .hidden ≡ countsOf s .counts) where
   pub shown : Shows (loadedNet s) t
   shown =
@@ -101,8 +101,8 @@ module _ (s : Session) (t : Columns) (valid : stateFault s ≡ Done) (same : s .
       record {
         inputs = en ∙ sym i;
         gates = em ∙ sym m;
-        cdc-at = λ g h. k .cdc-at g (omega arith) ∙ rw (c, i);
-        full-at = λ g h. k .full-at g (omega arith) ∙ rw (c, i);
+        cdc-at = λ g h. k .at g (omega arith) (omega arith) .0 ∙ rw (c, i);
+        full-at = λ g h. k .at g (omega arith) (omega arith) .1 ∙ rw (c, i);
         open-at = λ g h. ap (λ (l : List ℕ). getD l g 0) (eo ∙ held ∙ open-tables N)
             ∙ per-gate (length (N .gates)) (λ x. openTable N (N .inputs + x)) g (omega arith) (omega arith);
         hidden-at = λ g h. ap (λ (l : List ℕ). getD l g 0) (eh ∙ counts-of s valid) ∙ per-gate (s .m) (λ x. compatibleCount N (s .n + x)) g few (omega arith) ∙ rw i;

@@ -1,12 +1,12 @@
 -- The listing of a file, byte by byte: 01, 'The twin network'. Assumes nothing.
 use mathlib.Core.Path.{_≡_}
-use mathlib.Core.Bool.{cond}
-use mathlib.Core.List.{List, [], _∷_, _++_}
-use Prim.Native.Nat.{ℕ, zero, suc, _+_, _/_, _%_, _≤_}
-use lib.Dec.{ltb}
+use mathlib.Core.List.{List, [], _++_}
+use Prim.Native.Nat.{ℕ, zero, suc, _+_, _≤_}
 use lib.ListN.{length}
 use Rattle.bits.specs.Range.{count}
 use Rattle.bits.specs.Bit.{bit}
+use Rattle.text.specs.Ascii.{ascii}
+use Rattle.text.specs.Numbers.{hex, decimal}
 use Rattle.network.specs.declared.Session.{Session}
 use Rattle.network.specs.declared.Answer.{Answer}
 use Rattle.network.specs.declared.Answer.the-variants.{Done, Refused}
@@ -18,46 +18,22 @@ use Rattle.network.specs.Refusals.{numberOf}
 use Rattle.network.specs.Load.{loadOf}
 use Rattle.network.specs.Calls.{Filled, roomTest, filled}
 
--- ## Numbers
-
--- a digit, in lower case past 9
-abbrev pub digit : ℕ → ℕ
-digit d = cond (ltb d 10) (0x30 + d) (0x57 + d)
-
--- four hexadecimal digits
-unfoldable pub hex : ℕ → List ℕ
-hex x = digit (x / 4096 % 16) ∷ digit (x / 256 % 16) ∷ digit (x / 16 % 16) ∷ digit (x % 16) ∷ []
-
--- a number below 10000 in decimal, with no leading zeros
-unfoldable pub decimal : ℕ → List ℕ
-decimal x =
-    cond (ltb x 10) (digit x ∷ [])
-    (cond (ltb x 100) (digit (x / 10) ∷ digit (x % 10) ∷ [])
-    (cond (ltb x 1000) (digit (x / 100) ∷ digit (x / 10 % 10) ∷ digit (x % 10) ∷ [])
-    (digit (x / 1000) ∷ digit (x / 100 % 10) ∷ digit (x / 10 % 10) ∷ digit (x % 10) ∷ [])))
-
 -- ## Lines
 
--- gate cdc full open hidden
 unfoldable pub header : List ℕ
-header =
-    0x67 ∷ 0x61 ∷ 0x74 ∷ 0x65 ∷ 0x20
-    ∷ 0x63 ∷ 0x64 ∷ 0x63 ∷ 0x20
-    ∷ 0x66 ∷ 0x75 ∷ 0x6C ∷ 0x6C ∷ 0x20
-    ∷ 0x6F ∷ 0x70 ∷ 0x65 ∷ 0x6E ∷ 0x20
-    ∷ 0x68 ∷ 0x69 ∷ 0x64 ∷ 0x64 ∷ 0x65 ∷ 0x6E ∷ 0x0A ∷ []
+header = ascii "gate cdc full open hidden\n"
 
 -- signal; three tables; the number of patterns in H
 unfoldable pub row : (signal cdc full opens hidden : ℕ) → List ℕ
-row s c f o h = decimal s ++ 0x20 ∷ hex c ++ 0x20 ∷ hex f ++ 0x20 ∷ hex o ++ 0x20 ∷ decimal h ++ 0x0A ∷ []
+row s c f o h = decimal s ++ ascii " " ++ hex c ++ ascii " " ++ hex f ++ ascii " " ++ hex o ++ ascii " " ++ decimal h ++ ascii "\n"
 
--- total, set entries of all full tables, then of all open ones
+-- the set entries of all full tables, then of all open ones
 unfoldable pub totals : ℕ → ℕ → List ℕ
-totals f o = 0x74 ∷ 0x6F ∷ 0x74 ∷ 0x61 ∷ 0x6C ∷ 0x20 ∷ decimal f ++ 0x20 ∷ decimal o ++ 0x0A ∷ []
+totals f o = ascii "total " ++ decimal f ++ ascii " " ++ decimal o ++ ascii "\n"
 
--- refused, and 01's number
+-- 01's number of the refusal
 unfoldable pub refusedLine : ℕ → List ℕ
-refusedLine r = 0x72 ∷ 0x65 ∷ 0x66 ∷ 0x75 ∷ 0x73 ∷ 0x65 ∷ 0x64 ∷ 0x20 ∷ decimal r ++ 0x0A ∷ []
+refusedLine r = ascii "refused " ++ decimal r ++ ascii "\n"
 
 -- ## The listing
 

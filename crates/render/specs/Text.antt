@@ -1,19 +1,11 @@
 -- The listing from plain arrays, cut into the pieces that the functions lay. Assumes nothing.
-use mathlib.Core.List.{List, [], _∷_, _++_}
+use mathlib.Core.List.{List, [], _++_}
 use Prim.Native.Nat.{ℕ, zero, suc, _+_, _≤_, _<_}
 use lib.ListN.{getD}
 use Rattle.bits.specs.Range.{count}
 use Rattle.bits.specs.Bit.{bit}
 use Rattle.render.specs.declared.Columns.{Columns}
-use Rattle.render.specs.Listing.{hex, decimal, header, row, totals, setEntries}
-
--- a number and the byte behind it
-unfoldable pub number : (x after : ℕ) → List ℕ
-number x after = decimal x ++ after ∷ []
-
--- a table and the space behind it
-unfoldable pub field : ℕ → List ℕ
-field x = hex x ++ 0x20 ∷ []
+use Rattle.render.specs.Listing.{header, row, totals, setEntries}
 
 -- the set entries of one table
 unfoldable pub entriesIn : ℕ → ℕ

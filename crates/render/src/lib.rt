@@ -2,15 +2,14 @@
 ghost use mathlib.Core.Path.{_≡_};
 ghost use Prim.Native.Nat.{_+_, _*_, _<_, _≤_};
 ghost use lib.ListN.{length};
+ghost use Rattle.buffer.specs.Laid.{Laid};
 ghost use Rattle.network.specs.declared.Answer.the-variants.{Done};
 ghost use Rattle.network.specs.Compatible.{openTables};
 ghost use Rattle.network.specs.Flat.{loadedNet};
 ghost use Rattle.network.specs.State.{stateFault};
-ghost use Rattle.network.specs.Calls.{countsOf};
-ghost use Rattle.netwrite.specs.Laid.{Laid};
-ghost use Rattle.engine.specs.Written.{withLength};
-ghost use Rattle.render.specs.Listing.{digit, header, totals, refusedLine, listingOfNet, listingOf, listingInto};
-ghost use Rattle.render.specs.Text.{number, field, entriesIn, rowAt, rowsAt, setIn, textOf, Ready};
+ghost use Rattle.network.specs.Calls.{countsOf, withLength};
+ghost use Rattle.render.specs.Listing.{header, totals, refusedLine, listingOfNet, listingOf, listingInto};
+ghost use Rattle.render.specs.Text.{entriesIn, rowAt, rowsAt, setIn, textOf, Ready};
 use network::Answer;
 use network::Refusal;
 use network::Session;
@@ -26,60 +25,7 @@ pub struct Columns {
     pub hidden: [u64; 40],
 }
 
-fn digit(d: u64) -> u8
-    requires { ⌜ d < 16 ⌝ }
-    ensures { λ r. ⌜ r ≡ digit d ⌝ }
-{
-    let b = d as u8;
-    if d < 10 {
-        return 0x30 + b;
-    }
-    0x57 + b
-}
-
-// Each function that lays bytes does so from place at on and returns the place behind them.
-
-// A number in decimal, and the byte behind it.
-fn put_number(buf: &mut [u8], at: usize, x: u64, after: u8) -> usize
-    requires { ⌜ (x < 10000) × (at + 5 ≤ length (now buf)) ⌝ }
-    ensures { λ r. ⌜ Laid (now (buf .entry)) at (number x after) (now (buf .exit)) r ⌝ }
-{
-    if x < 10 {
-        let t = [digit(x), after];
-        return netwrite::copy(buf, at, &t);
-    }
-    if x < 100 {
-        let t = [digit(x / 10), digit(x % 10), after];
-        return netwrite::copy(buf, at, &t);
-    }
-    if x < 1000 {
-        let t = [digit(x / 100), digit(x / 10 % 10), digit(x % 10), after];
-        return netwrite::copy(buf, at, &t);
-    }
-    let t = [
-        digit(x / 1000),
-        digit(x / 100 % 10),
-        digit(x / 10 % 10),
-        digit(x % 10),
-        after,
-    ];
-    netwrite::copy(buf, at, &t)
-}
-
-// A table in hexadecimal, and a space.
-fn put_field(buf: &mut [u8], at: usize, x: u64) -> usize
-    requires { ⌜ at + 5 ≤ length (now buf) ⌝ }
-    ensures { λ r. ⌜ Laid (now (buf .entry)) at (field x) (now (buf .exit)) r ⌝ }
-{
-    let t = [
-        digit(x / 4096 % 16),
-        digit(x / 256 % 16),
-        digit(x / 16 % 16),
-        digit(x % 16),
-        0x20,
-    ];
-    netwrite::copy(buf, at, &t)
-}
+// Each function that puts text does so from place at on, or from the start, and returns the place behind it.
 
 fn put_row(buf: &mut [u8], at: usize, t: Columns, g: usize) -> usize
     requires { ⌜ Ready t × (g < t .m) × (at + 25 ≤ length (now buf)) ⌝ }
@@ -90,11 +36,11 @@ fn put_row(buf: &mut [u8], at: usize, t: Columns, g: usize) -> usize
     let full = t.full[g];
     let opens = t.opens[g];
     let hidden = t.hidden[g];
-    let a = put_number(buf, at, signal, 0x20);
-    let b = put_field(buf, a, cdc);
-    let c = put_field(buf, b, full);
-    let d = put_field(buf, c, opens);
-    put_number(buf, d, hidden, 0x0A)
+    let a = text::put_number(buf, at, signal, b' ');
+    let b = text::put_field(buf, a, cdc);
+    let c = text::put_field(buf, b, full);
+    let d = text::put_field(buf, c, opens);
+    text::put_number(buf, d, hidden, b'\n')
 }
 
 fn put_rows(buf: &mut [u8], at: usize, t: Columns) -> usize
@@ -136,45 +82,16 @@ fn put_totals(buf: &mut [u8], at: usize, full: u64, opens: u64) -> usize
     requires { ⌜ (full < 10000) × (opens < 10000) × (at + 16 ≤ length (now buf)) ⌝ }
     ensures { λ r. ⌜ Laid (now (buf .entry)) at (totals full opens) (now (buf .exit)) r ⌝ }
 {
-    let word = [0x74, 0x6F, 0x74, 0x61, 0x6C, 0x20];
-    let a = netwrite::copy(buf, at, &word);
-    let b = put_number(buf, a, full, 0x20);
-    put_number(buf, b, opens, 0x0A)
+    let a = buffer::copy(buf, at, b"total ");
+    let b = text::put_number(buf, a, full, b' ');
+    text::put_number(buf, b, opens, b'\n')
 }
 
 fn put_header(buf: &mut [u8]) -> usize
     requires { ⌜ 26 ≤ length (now buf) ⌝ }
     ensures { λ r. ⌜ Laid (now (buf .entry)) 0 header (now (buf .exit)) r ⌝ }
 {
-    let line = [
-        0x67,
-        0x61,
-        0x74,
-        0x65,
-        0x20,
-        0x63,
-        0x64,
-        0x63,
-        0x20,
-        0x66,
-        0x75,
-        0x6C,
-        0x6C,
-        0x20,
-        0x6F,
-        0x70,
-        0x65,
-        0x6E,
-        0x20,
-        0x68,
-        0x69,
-        0x64,
-        0x64,
-        0x65,
-        0x6E,
-        0x0A,
-    ];
-    netwrite::copy(buf, 0, &line)
+    buffer::copy(buf, 0, b"gate cdc full open hidden\n")
 }
 
 // The whole text; 1042 bytes are enough for a header, 40 rows and the totals with numbers of 4 digits.
@@ -216,9 +133,8 @@ fn put_refusal(buf: &mut [u8], k: u64) -> usize
     requires { ⌜ (k < 10000) × (13 ≤ length (now buf)) ⌝ }
     ensures { λ r. ⌜ Laid (now (buf .entry)) 0 (refusedLine k) (now (buf .exit)) r ⌝ }
 {
-    let word = [0x72, 0x65, 0x66, 0x75, 0x73, 0x65, 0x64, 0x20];
-    let a = netwrite::copy(buf, 0, &word);
-    put_number(buf, a, k, 0x0A)
+    let a = buffer::copy(buf, 0, b"refused ");
+    text::put_number(buf, a, k, b'\n')
 }
 
 // The listing of any bytes, in a buffer that is long enough for each.
@@ -247,6 +163,6 @@ pub fn listing(bytes: &[u8], buf: &mut [u8]) -> WriteAnswer
     if buf.len() < n {
         return WriteAnswer::Refused(Refusal::BufferTooShort);
     }
-    let k = netwrite::copy(buf, 0, &text[0..n]);
+    let k = buffer::copy(buf, 0, &text[0..n]);
     WriteAnswer::Written(k)
 }

@@ -6,13 +6,14 @@ use native.Mathlib.Omega.{arith}
 use native.Mathlib.Nat.{lt-of-lt-of-le, pow-le-pow-right}
 use lib.ListN.{length, getD, drop, length-append}
 use lib.Seq.{take-at, drop-at}
+use Rattle.bits.specs.Lists.{bytesIn}
 use Rattle.bits.proofs.Ranges.{length-places}
 use Rattle.network.specs.declared.Session.{Session}
 use Rattle.network.specs.declared.Answer.the-variants.{Done}
 use Rattle.network.specs.Tests.{countTest, faninsTest, widthTest}
 use Rattle.network.specs.State.{arityOf, faninsOf}
 use Rattle.network.specs.Load.{faninsIn, afterFanins, tableIn, gateTests, gateRecord, readGates}
-use Rattle.network.specs.Write.{bytesIn, gateBytes}
+use Rattle.network.specs.Write.{gateBytes}
 use Rattle.network.proofs.TestLaws.{clear-i, short-i, mark-i, count-e, width-e}
 use Rattle.network.proofs.Valid.{GateValid}
 use Rattle.roundtrip.proofs.WordsRead.{number-bytes}

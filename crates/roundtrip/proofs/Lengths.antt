@@ -8,13 +8,14 @@ use native.Mathlib.Nat.{min-le-left}
 use lib.Dec.{leb}
 use lib.ListN.{length, getD, drop, length-append, length-take, length-drop}
 use borrow.Author.Tests.{leb-false}
+use Rattle.bits.specs.Lists.{bytesIn}
 use Rattle.bits.proofs.Ranges.{by-cases, length-places}
 use Rattle.network.specs.declared.Session.{Session}
 use Rattle.network.specs.declared.Refusal.the-variants.{TrailingBytes}
 use Rattle.network.specs.Tests.{refuseIf}
 use Rattle.network.specs.State.{arityOf, faninsOf}
 use Rattle.network.specs.Load.{started, loadDone, withOutput, outputTests, outputRecord, readOutputs, faninsIn, afterFanins, tableIn, withGate, gateTests, gateRecord, readGates, setBytes, excludedIn, withExcluded, isExcluded, excludedRecord, readBody, headerTests, headerRecord, readOf}
-use Rattle.network.specs.Write.{bytesIn, wordBytes, allZero, headerBytes, excludedBytes, gateBytes, gatesBytes, outputBytes, outputsBytes, bytesOf}
+use Rattle.network.specs.Write.{wordBytes, allZero, headerBytes, excludedBytes, gateBytes, gatesBytes, outputBytes, outputsBytes, bytesOf}
 use Rattle.network.proofs.TestLaws.{clear-e, short-e, count-e, passed, went}
 use Rattle.network.proofs.Valid.{valid-e}
 use Rattle.network.proofs.Reached.{load-read}

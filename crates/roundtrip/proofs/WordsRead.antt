@@ -11,12 +11,13 @@ use lib.ListN.{length, getD, take, replicate, drop-of-length-le, List·getD-eq-d
 use lib.Pow.{pow-pos}
 use lib.Seq.{take-all, take-append-add}
 use borrow.Author.Tests.{le-ltb, eqb-true}
+use Rattle.bits.specs.Lists.{bytesIn}
 use Rattle.bits.proofs.Ranges.{and-l, and-r}
+use Rattle.bits.proofs.Bytes.{length-bytes, take-bytes}
 use Rattle.network.specs.declared.Answer.the-variants.{Done}
 use Rattle.network.specs.Tests.{widthTest, excludedTest}
 use Rattle.network.specs.Load.{littleEndian, wordsFrom, setBytes}
-use Rattle.network.specs.Write.{bytesIn, wordBytes, allZero}
-use Rattle.network.proofs.Bytes.{length-bytes, take-bytes}
+use Rattle.network.specs.Write.{wordBytes, allZero}
 use Rattle.network.proofs.TestLaws.{each-e, width-e}
 
 -- ## Bytes of a number

@@ -1,7 +1,7 @@
 -- `boundary::give` meets its contract. Assumes nothing.
 use mathlib.Core.Path.{refl}
 use borrow.Author.Needs.{needs}
-use Rattle.netwrite.proofs.Laws.{laid-start}
+use Rattle.buffer.proofs.Laying.{laid-start}
 use Rattle.boundary.proofs.give.Statement.{statement}
 use Rattle.boundary.proofs.give.Tie as tie
 

@@ -3,10 +3,10 @@ use mathlib.Core.Path.{refl}
 use Prim.Native.Nat.{_*_, _-_, _≤_}
 use native.Mathlib.Omega.{arith}
 use borrow.Author.Needs.{needs}
+use Rattle.buffer.specs.Laid.{Laid}
+use Rattle.buffer.proofs.Laying.{laid-length}
 use Rattle.network.proofs.TestLaws.{count-e}
 use Rattle.network.proofs.Valid.{valid-e}
-use Rattle.netwrite.specs.Laid.{Laid}
-use Rattle.netwrite.proofs.Laws.{laid-length}
 use Rattle.boundary.specs.Boundary.{allTableWords}
 use Rattle.boundary.proofs.Rows.{row-room, row-next, rows-done}
 use Rattle.boundary.proofs.put_tables.Statement.{statement}

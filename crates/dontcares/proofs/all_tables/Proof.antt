@@ -1,6 +1,5 @@
 -- `dontcares::all_tables` meets its contract. Assumes nothing.
 use borrow.Author.Needs.{needs}
-use Rattle.dontcares.proofs.TableLaws.{from-first}
 use Rattle.dontcares.proofs.all_tables.Statement.{statement}
 use Rattle.dontcares.proofs.all_tables.Tie as tie
 
@@ -11,7 +10,7 @@ sets-between-requires : tie.Need-sets-between-requires
 sets-between-requires c κs = search needs
 
 returns : tie.Need-returns
-returns c = from-first (rw (c .before .before .place .ensures) at (c .sets-between .ensures .1))
+returns c = rw (c .before .before .place .ensures) at (c .sets-between .ensures .1)
 
 pub all-tables-spec : {M : Type 1} → statement M
 all-tables-spec = tie.close (tie.spec place-requires sets-between-requires returns)

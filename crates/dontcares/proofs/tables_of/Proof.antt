@@ -1,17 +1,12 @@
 -- `dontcares::tables_of` meets its contract. Assumes nothing.
 use borrow.Author.Needs.{needs}
 use mathlib.Core.Path.{_≡_, refl, subst}
-use mathlib.Core.List.{List}
-use Prim.Native.Nat.{ℕ, _-_, _≤_, _<_}
+use Prim.Native.Nat.{ℕ, _-_, _≤_}
 use native.Mathlib.Omega.{arith}
 use lib.ListN.{length, length-set}
 use denote.Ref.{now}
-use Rattle.bits.specs.Cut.{Framed}
 use Rattle.network.specs.Flat.{netOf}
-use Rattle.network.specs.Valid.{NetOk}
-use Rattle.simulate.specs.Simulated.{Rows}
-use Rattle.observability.specs.Odc.{OdcAt}
-use Rattle.dontcares.specs.Tabled.{TabledFrom}
+use Rattle.dontcares.specs.Tabled.{Tabled, GatesTabled}
 use Rattle.dontcares.proofs.TableLaws.{no-tables, tables-more}
 use Rattle.dontcares.proofs.tables_of.Statement.{statement}
 use Rattle.dontcares.proofs.tables_of.Tie as tie
@@ -19,9 +14,7 @@ use Rattle.dontcares.proofs.tables_of.Tie as tie
 abbrev Inv-loop : tie.InvT-loop
 Inv-loop a e arity fanins excluded rows odc count live cdc₀ full₀ g₀ cdc full g =
     (a ≤ g) × (g ≤ e) × (length cdc ≡ 40) × (length full ≡ 40)
-    × ((ts outs : List ℕ) (n m p : ℕ) → e ≤ m → NetOk arity fanins n m → Rows arity fanins ts rows n m count → Framed n count live
-    → ((g : ℕ) → a ≤ g → g < e → OdcAt (netOf arity fanins ts n m excluded outs p) odc n g count)
-    → TabledFrom (netOf arity fanins ts n m excluded outs p) cdc full n a g)
+    × GatesTabled arity fanins excluded rows odc count live a e cdc full g
 
 abbrev μ-loop : tie.MeasureT-loop
 μ-loop a e arity fanins excluded rows odc count live cdc₀ full₀ g₀ cdc full g = e - g
@@ -73,7 +66,7 @@ returns c ts outs n m p most ok sim framed at =
     let l = c .before in
     let a = l .before .args in
     let e : l .loop .g ≡ a .e = omega arith in
-    subst (λ (k : ℕ). TabledFrom (netOf (now (a .arity)) (now (a .fanins)) ts n m (now (a .excluded)) outs p) (l .loop .cdc) (l .loop .full) n (a .a) k) e (l .loop .inv .4 ts outs n m p most ok sim framed at)
+    subst (λ (k : ℕ). Tabled (netOf (now (a .arity)) (now (a .fanins)) ts n m (now (a .excluded)) outs p) (l .loop .cdc) (l .loop .full) n (a .a) k) e (l .loop .inv .4 ts outs n m p most ok sim framed at)
 
 pub tables-of-spec : {M : Type 1} → statement M
 tables-of-spec =

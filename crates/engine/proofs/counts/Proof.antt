@@ -1,11 +1,7 @@
 -- `engine::counts` meets its contract. Assumes nothing.
-use mathlib.Core.Path.{sym, ap, _∙_}
-use mathlib.Core.List.{List}
-use Prim.Native.Nat.{ℕ}
-use Rattle.network.specs.declared.Answer.the-variants.{Done}
-use Rattle.network.specs.declared.Counts.{Counts}
+use mathlib.Core.Path.{sym, _∙_}
 use Rattle.network.proofs.Valid.{state-e}
-use Rattle.engine.proofs.Laws.{counts-refused, counts-done}
+use Rattle.engine.proofs.Laws.{counts-refused}
 use borrow.Author.Needs.{needs}
 use Rattle.engine.proofs.counts.Statement.{statement}
 use Rattle.engine.proofs.counts.Tie as tie
@@ -30,11 +26,7 @@ counts-requires c κs =
     state-e (t .before .args .s) (sym (t .state-test .ensures) ∙ c .enum-told2 .given .1)
 
 returns-2 : tie.Need-returns-2
-returns-2 c =
-    let k = c .before in
-    let t = k .before .before in
-    ap {B = Counts} (λ (l : List ℕ). record { answer = Done; counts = l }) (c .counts .ensures)
-    ∙ counts-done (t .before .args .s) (sym (t .state-test .ensures) ∙ k .enum-told2 .given .1)
+returns-2 c = c .counts .ensures
 
 pub counts-spec : {M : Type 1} → statement M
 counts-spec =

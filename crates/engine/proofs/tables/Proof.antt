@@ -1,92 +1,33 @@
 -- `engine::tables` meets its contract. Assumes nothing.
 use mathlib.Core.Path.{sym, _∙_}
-use mathlib.Core.List.{[]}
-use native.Mathlib.Omega.{arith}
-use Rattle.answers.proofs.Named.{named}
-use Rattle.engine.proofs.Laws.{tables-refused, tables-done}
+use Rattle.network.proofs.Valid.{state-e}
+use Rattle.engine.proofs.Laws.{tables-invalid}
 use borrow.Author.Needs.{needs}
 use Rattle.engine.proofs.tables.Statement.{statement}
 use Rattle.engine.proofs.tables.Tie as tie
 
-gate-test-requires : tie.Need-gate-test-requires
-gate-test-requires c κs = search needs
+state-test-requires : tie.Need-state-test-requires
+state-test-requires c κs = search needs
 
-enum-known-a : tie.Need-enum-known-a
-enum-known-a c = search needs
+enum-known-v : tie.Need-enum-known-v
+enum-known-v c = search needs
 
 returns : tie.Need-returns
 returns c =
-    let a = c .before in
-    let t = a .before .before in
-    tables-refused (t .before .args .t1) (t .before .args .gate) (sym (t .gate-test .ensures) ∙ a .a .given .1)
+    let k = c .before in
+    let t = k .before .before in
+    tables-invalid (t .before .args .s) (t .before .args .gate) (sym (t .state-test .ensures) ∙ k .v .given .1)
 
 enum-told : tie.Need-enum-told
 enum-told c = search needs
 
-cast-n : tie.Need-cast-n
-cast-n c = search needs
-
-sub-g : tie.Need-sub-g
-sub-g c =
-    let k = c in
-    let t = k .before .before in
-    let s = t .before .args .t1 in
-    let v = named s (t .before .args .gate) [] (sym (t .gate-test .ensures) ∙ k .enum-told .given .1) in
-    omega (arith, v .low)
-
-gate-tables-requires : tie.Need-gate-tables-requires
-gate-tables-requires c κs =
-    let k = c in
-    let t = k .before .before in
-    let s = t .before .args .t1 in
-    let v = named s (t .before .args .gate) [] (sym (t .gate-test .ensures) ∙ k .enum-told .given .1) in
-    (v .valid, omega (arith, v .low, v .high))
-
-sdc-requires : tie.Need-sdc-requires
-sdc-requires c κs =
-    let k = c .before in
-    let t = k .before .before in
-    let s = t .before .args .t1 in
-    let v = named s (t .before .args .gate) [] (sym (t .gate-test .ensures) ∙ k .enum-told .given .1) in
-    (v .valid, omega (arith, v .low, v .high))
-
-mul-t12 : tie.Need-mul-t12
-mul-t12 c =
-    let k = c .before .before in
-    let t = k .before .before in
-    let s = t .before .args .t1 in
-    let v = named s (t .before .args .gate) [] (sym (t .gate-test .ensures) ∙ k .enum-told .given .1) in
-    omega (arith, v .low, v .high, v .most)
-
-element-copy-out-t15 : tie.Need-element-copy-out-t15
-element-copy-out-t15 c =
-    let k = c .before .before in
-    let t = k .before .before in
-    let s = t .before .args .t1 in
-    let v = named s (t .before .args .gate) [] (sym (t .gate-test .ensures) ∙ k .enum-told .given .1) in
-    omega (arith, v .low, v .high, v .most)
+tables-requires : tie.Need-tables-requires
+tables-requires c κs =
+    let t = c .before .before in
+    state-e (t .before .args .s) (sym (t .state-test .ensures) ∙ c .enum-told .given .1)
 
 returns-2 : tie.Need-returns-2
-returns-2 c =
-    let k = c .before .before .before in
-    let t = k .before .before in
-    let s = t .before .args .t1 in
-    let v = named s (t .before .args .gate) [] (sym (t .gate-test .ensures) ∙ k .enum-told .given .1) in
-    tables-done s (t .before .args .gate) (sym (t .gate-test .ensures) ∙ k .enum-told .given .1) (v .low)
-    (c .before .sdc .ensures) (c .before .before .gate-tables .ensures .0) (c .before .before .gate-tables .ensures .1)
+returns-2 c = c .tables .ensures
 
 pub tables-spec : {M : Type 1} → statement M
-tables-spec =
-    tie.close
-    (tie.spec
-    gate-test-requires
-    enum-known-a
-    returns
-    enum-told
-    cast-n
-    sub-g
-    gate-tables-requires
-    sdc-requires
-    mul-t12
-    element-copy-out-t15
-    returns-2)
+tables-spec = tie.close (tie.spec state-test-requires enum-known-v returns enum-told tables-requires returns-2)

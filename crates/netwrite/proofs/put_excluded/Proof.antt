@@ -3,7 +3,8 @@ use mathlib.Core.Path.{_≡_, sym, ap, _∙_}
 use native.Mathlib.Omega.{arith}
 use lib.ListN.{length}
 use borrow.Author.Needs.{needs}
-use Rattle.netwrite.proofs.Laws.{left-start, left-done, laid-length, excluded-none, excluded-some, length-excluded, excluded-laid}
+use Rattle.buffer.proofs.Laying.{laid-length, left-start, left-done}
+use Rattle.netwrite.proofs.Laws.{excluded-none, excluded-some, length-excluded, excluded-laid}
 use Rattle.netwrite.proofs.put_excluded.Statement.{statement}
 use Rattle.netwrite.proofs.put_excluded.Tie as tie
 

@@ -3,7 +3,8 @@ use mathlib.Core.Path.{_≡_, _∙_}
 use native.Mathlib.Omega.{arith}
 use lib.ListN.{length}
 use borrow.Author.Needs.{needs}
-use Rattle.netwrite.proofs.Laws.{gate-laid, laid-length, length-gate, length-fanins}
+use Rattle.buffer.proofs.Laying.{laid-length}
+use Rattle.netwrite.proofs.Laws.{gate-laid, length-gate, length-fanins}
 use Rattle.netwrite.proofs.put_gate.Statement.{statement}
 use Rattle.netwrite.proofs.put_gate.Tie as tie
 

@@ -3,9 +3,10 @@ use Prim.Native.Nat.{_+_, _-_, _≤_, _<_}
 use native.Mathlib.Nat.{sub-zero}
 use native.Mathlib.Omega.{arith}
 use borrow.Author.Needs.{needs}
+use Rattle.buffer.proofs.Laying.{Left, left-start, left-step, left-room, left-done}
 use Rattle.network.specs.Write.{gateBytes, gatesBytes}
 use Rattle.network.proofs.Valid.{net-ok}
-use Rattle.netwrite.proofs.Laws.{Left, left-start, left-room, left-step, left-done, gates-next, gates-done}
+use Rattle.netwrite.proofs.Laws.{gates-next, gates-done}
 use Rattle.netwrite.proofs.put_gates.Statement.{statement}
 use Rattle.netwrite.proofs.put_gates.Tie as tie
 

@@ -5,8 +5,9 @@ use native.Mathlib.Nat.{sub-zero}
 use native.Mathlib.Omega.{arith}
 use lib.ListN.{getD}
 use borrow.Author.Needs.{needs}
+use Rattle.buffer.proofs.Laying.{Left, left-start, left-step, left-room, left-done}
 use Rattle.network.specs.Write.{outputsBytes}
-use Rattle.netwrite.proofs.Laws.{Left, left-start, left-room, left-step, left-done, outputs-next, outputs-done}
+use Rattle.netwrite.proofs.Laws.{outputs-next, outputs-done}
 use Rattle.netwrite.proofs.put_outputs.Statement.{statement}
 use Rattle.netwrite.proofs.put_outputs.Tie as tie
 

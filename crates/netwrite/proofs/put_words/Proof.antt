@@ -5,9 +5,11 @@ use Prim.Native.Nat.{_+_, _*_, _-_}
 use native.Mathlib.Omega.{arith}
 use lib.ListN.{length, getD, take, drop}
 use borrow.Author.Needs.{needs}
-use Rattle.network.specs.Write.{bytesIn, wordBytes}
-use Rattle.network.proofs.Bytes.{length-bytes}
-use Rattle.netwrite.proofs.Laws.{Left, left-start, left-step, left-done, laid-length, words-next, words-part}
+use Rattle.bits.specs.Lists.{bytesIn}
+use Rattle.bits.proofs.Bytes.{length-bytes}
+use Rattle.buffer.proofs.Laying.{Left, laid-length, left-start, left-step, left-done}
+use Rattle.network.specs.Write.{wordBytes}
+use Rattle.netwrite.proofs.Laws.{words-next, words-part}
 use Rattle.netwrite.proofs.put_words.Statement.{statement}
 use Rattle.netwrite.proofs.put_words.Tie as tie
 

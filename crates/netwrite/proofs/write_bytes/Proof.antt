@@ -3,9 +3,10 @@ use mathlib.Core.Path.{refl, sym}
 use mathlib.Core.List.{[], append-nil}
 use native.Mathlib.Omega.{arith}
 use borrow.Author.Needs.{needs}
+use Rattle.buffer.proofs.Laying.{laid-start, left-step, left-room}
 use Rattle.network.specs.Write.{excludedBytes, gatesBytes, outputsBytes, bytesOf}
 use Rattle.network.proofs.Valid.{net-ok, outputs-ok}
-use Rattle.netwrite.proofs.Laws.{left-step, left-room, laid-start, file-laid, after-header, afterExcluded, length-file}
+use Rattle.netwrite.proofs.Laws.{file-laid, after-header, afterExcluded, length-file}
 use Rattle.netwrite.proofs.write_bytes.Statement.{statement}
 use Rattle.netwrite.proofs.write_bytes.Tie as tie
 

@@ -8,12 +8,12 @@ use mir.Val.{Fits}
 use lib.ListN.{length, getD}
 use lib.Seq.{sets}
 use borrow.Author.Needs.{needs}
+use Rattle.bits.specs.Lists.{overwritten}
+use Rattle.buffer.proofs.Laying.{laid-start, lay-two}
 use Rattle.network.specs.declared.Session.{Session}
 use Rattle.network.specs.Valid.{Shaped}
-use Rattle.network.specs.Calls.{overwritten}
-use Rattle.netwrite.proofs.Laws.{laid-start}
 use Rattle.packed.specs.Packed.{bytesHeld, wordsHeld, packedOf}
-use Rattle.packed.proofs.Laws.{lay-two, length-bytes}
+use Rattle.packed.proofs.Laws.{length-bytes}
 use Rattle.packed.proofs.Inverse.{packed-length}
 use Rattle.packed.proofs.pack.Statement.{statement}
 use Rattle.packed.proofs.pack.Tie as tie

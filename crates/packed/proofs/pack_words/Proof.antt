@@ -3,7 +3,7 @@ use mathlib.Core.Path.{_≡_}
 use native.Mathlib.Omega.{arith}
 use lib.ListN.{length}
 use borrow.Author.Needs.{needs}
-use Rattle.packed.proofs.Laws.{lay-four}
+use Rattle.buffer.proofs.Laying.{lay-four}
 use Rattle.packed.proofs.pack_words.Statement.{statement}
 use Rattle.packed.proofs.pack_words.Tie as tie
 

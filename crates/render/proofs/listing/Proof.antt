@@ -3,7 +3,7 @@ use Prim.Native.Nat.{_≤_, _<_}
 use native.Mathlib.Omega.{arith}
 use lib.ListN.{length}
 use borrow.Author.Needs.{needs}
-use Rattle.netwrite.proofs.Laws.{laid-start}
+use Rattle.buffer.proofs.Laying.{laid-start}
 use Rattle.render.specs.Listing.{listingOf}
 use Rattle.render.proofs.Shown.{text-part, into-short, into-done}
 use Rattle.render.proofs.Lengths.{listing-length, listing-ends}

@@ -1,7 +1,8 @@
 -- `put_row`: piece after piece; each has room, as none is longer than 5. Assumes nothing.
 use native.Mathlib.Omega.{arith}
 use borrow.Author.Needs.{needs}
-use Rattle.render.proofs.Laws.{number-within, field-within, row-laid}
+use Rattle.text.proofs.Digits.{number-within, field-within}
+use Rattle.render.proofs.Laws.{row-laid}
 use Rattle.render.proofs.put_row.Statement.{statement}
 use Rattle.render.proofs.put_row.Tie as tie
 

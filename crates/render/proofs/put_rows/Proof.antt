@@ -2,9 +2,10 @@
 use Prim.Native.Nat.{_-_, _≤_}
 use native.Mathlib.Omega.{arith}
 use borrow.Author.Needs.{needs}
-use Rattle.netwrite.specs.Laid.{Laid}
+use Rattle.buffer.specs.Laid.{Laid}
+use Rattle.buffer.proofs.Laying.{laid-none}
 use Rattle.render.specs.Text.{rowsAt}
-use Rattle.render.proofs.Laws.{rows-within, no-rows, rows-next, rows-done}
+use Rattle.render.proofs.Laws.{rows-within, rows-next, rows-done}
 use Rattle.render.proofs.put_rows.Statement.{statement}
 use Rattle.render.proofs.put_rows.Tie as tie
 
@@ -15,7 +16,7 @@ abbrev μ-loop : tie.MeasureT-loop
 μ-loop buf₀ at t m a₀ g₀ buf a g = m - g
 
 loop-holds : tie.Need-loop-holds Inv-loop μ-loop
-loop-holds c = (omega arith, no-rows _ _)
+loop-holds c = (omega arith, laid-none _ _)
 
 put-row-requires : tie.Need-put-row-requires Inv-loop μ-loop
 put-row-requires c κs =

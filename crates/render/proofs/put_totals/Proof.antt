@@ -1,7 +1,8 @@
 -- `put_totals`: the word and two numbers. Assumes nothing.
 use native.Mathlib.Omega.{arith}
 use borrow.Author.Needs.{needs}
-use Rattle.render.proofs.Laws.{number-within, totals-laid}
+use Rattle.text.proofs.Digits.{number-within}
+use Rattle.render.proofs.Laws.{totals-laid}
 use Rattle.render.proofs.put_totals.Statement.{statement}
 use Rattle.render.proofs.put_totals.Tie as tie
 

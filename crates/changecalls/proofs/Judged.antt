@@ -1,0 +1,73 @@
+-- Verdict and exchange: what their answers name, and what the calls leave by them. Assumes nothing.
+use mathlib.Core.Path.{_≡_, refl, sym, _∙_}
+use mathlib.Core.Bool.{Bool, _&&_}
+use mathlib.Core.List.{List, [], _∷_}
+use Prim.Native.Nat.{ℕ}
+use native.Mathlib.Omega.{arith}
+use lib.ListN.{length}
+use Rattle.bits.specs.declared.Found.{Found}
+use Rattle.bits.specs.declared.Found.the-variants.{At, Nothing}
+use Rattle.bits.specs.Range.{smallest}
+use Rattle.bits.specs.Lists.{overwritten}
+use Rattle.network.specs.declared.Session.{Session}
+use Rattle.network.specs.declared.Refusal.{Refusal}
+use Rattle.network.specs.declared.Answer.{Answer}
+use Rattle.network.specs.declared.Answer.the-variants.{Done, Refused}
+use Rattle.network.specs.Net.{Net, entries, patternOrder, Replacement, replaced}
+use Rattle.network.specs.DontCares.{harms}
+use Rattle.network.specs.Flat.{loadedNet, currentNet}
+use Rattle.network.specs.Refusals.{numberOf, valuesOf}
+use Rattle.network.specs.Tests.{first}
+use Rattle.network.specs.State.{stateTest}
+use Rattle.network.specs.Calls.{gateTest, tableTest, alters, entryFound, closedTest, outputFound, firstHarm, harmTest, heldClosed, exchangeTests, exchangeAnswer, verdictOf}
+use Rattle.network.proofs.TestLaws.{alone}
+use Rattle.boundary.specs.Boundary.{left}
+use Rattle.boundary.proofs.Names.{Names, names-or, names-first, names-state, names-gate, names-table}
+use Rattle.boundary.proofs.Leaves.{Leaves, told, done}
+
+-- ## What the answers name
+
+pub names-exchange : (s : Session) (r : Replacement) → Names 1 (exchangeAnswer s r)
+unfolding exchangeAnswer closedTest
+names-exchange s r =
+    let N = loadedNet s in
+    let shut = heldClosed s (r .signal) in
+    names-first 1 (stateTest s ∷ exchangeTests N shut r)
+    (names-state 1 s, (names-gate 1 N (r .signal), (names-table 1 N r, (go (smallest (entries N (r .signal)) (λ t. shut t && alters N r t)), tt))))
+  where
+    go : (f : Found) → Names 1 (entryFound f)
+    go (At t) = omega arith
+    go Nothing = omega arith
+
+names-first-harm : (h : ℕ → ℕ → Bool) (p : ℕ) (xs : List ℕ) → Names 2 (firstHarm h p xs)
+names-first-harm h p [] = omega arith
+names-first-harm h p (x ∷ xs) = names-or 2 (outputFound x (smallest p (h x))) (firstHarm h p xs) (go (smallest p (h x))) (names-first-harm h p xs)
+  where
+    go : (f : Found) → Names 2 (outputFound x f)
+    go (At i) = omega arith
+    go Nothing = omega arith
+
+names-harm : (L M : Net) → Names 2 (harmTest L M)
+unfolding harmTest
+names-harm L M = names-first-harm (harms L M) (length (L .outputs)) (patternOrder L)
+
+pub names-verdict : (s : Session) (r : Replacement) → Names 2 (verdictOf s r)
+unfolding verdictOf
+names-verdict s r =
+    let N = loadedNet s in
+    let M = replaced (currentNet s) (r ∷ []) in
+    names-first 2 (stateTest s ∷ gateTest N (r .signal) ∷ tableTest N r ∷ harmTest N M ∷ [])
+    (names-state 2 s, (names-gate 2 N (r .signal), (names-table 2 N r, (names-harm N M, tt))))
+
+-- ## What a call leaves whose own test is y, and that gives nothing in `out`
+
+module _ (new buffer out : List ℕ) {y v : Answer} (e : v ≡ y) where
+  judged : v ≡ first (y ∷ [])
+  judged = e ∙ alone y
+
+  pub judged-refused : {f : Refusal} {k : ℕ} {o : List ℕ} → v ≡ Refused f → k ≡ numberOf f → o ≡ overwritten (valuesOf f) out
+      → Leaves (left (first (y ∷ [])) [] new buffer out) k buffer o
+  judged-refused h p q = told [] new buffer out (sym judged ∙ h) p q
+
+  pub judged-done : {b : List ℕ} → v ≡ Done → b ≡ overwritten new buffer → Leaves (left (first (y ∷ [])) [] new buffer out) 0 b out
+  judged-done h p = done [] new buffer out (sym judged ∙ h) p refl

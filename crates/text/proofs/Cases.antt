@@ -1,0 +1,9 @@
+-- The cases of specs/Cases.antt hold, by computation. Assumes nothing.
+use mathlib.Core.Path.{refl}
+use Rattle.bits.specs.Lists.{Hold}
+use Rattle.text.specs.Numbers.{hex, decimal}
+use Rattle.text.specs.Cases.{shown}
+
+pub shown-hold : Hold shown
+unfolding hex decimal
+shown-hold = refl

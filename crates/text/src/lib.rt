@@ -1,0 +1,62 @@
+// Numbers as text, put into a lent buffer. Quoted text needs no function of its own: `buffer::copy` of `b".."` meets `ascii` of the same words.
+ghost use mathlib.Core.Path.{_≡_};
+ghost use Prim.Native.Nat.{_+_, _<_, _≤_};
+ghost use lib.ListN.{length};
+ghost use Rattle.buffer.specs.Laid.{Laid};
+ghost use Rattle.text.specs.Numbers.{digit};
+ghost use Rattle.text.specs.Fields.{number, field};
+
+fn digit(d: u64) -> u8
+    requires { ⌜ d < 16 ⌝ }
+    ensures { λ r. ⌜ r ≡ digit d ⌝ }
+{
+    let b = d as u8;
+    if d < 10 {
+        return 0x30 + b;
+    }
+    0x57 + b
+}
+
+// Both functions below put from place at on and return the place behind what they put.
+
+// A number in decimal, and the byte behind it.
+pub fn put_number(buf: &mut [u8], at: usize, x: u64, after: u8) -> usize
+    requires { ⌜ (x < 10000) × (at + 5 ≤ length (now buf)) ⌝ }
+    ensures { λ r. ⌜ Laid (now (buf .entry)) at (number x after) (now (buf .exit)) r ⌝ }
+{
+    if x < 10 {
+        let t = [digit(x), after];
+        return buffer::copy(buf, at, &t);
+    }
+    if x < 100 {
+        let t = [digit(x / 10), digit(x % 10), after];
+        return buffer::copy(buf, at, &t);
+    }
+    if x < 1000 {
+        let t = [digit(x / 100), digit(x / 10 % 10), digit(x % 10), after];
+        return buffer::copy(buf, at, &t);
+    }
+    let t = [
+        digit(x / 1000),
+        digit(x / 100 % 10),
+        digit(x / 10 % 10),
+        digit(x % 10),
+        after,
+    ];
+    buffer::copy(buf, at, &t)
+}
+
+// Four hexadecimal digits, and a space.
+pub fn put_field(buf: &mut [u8], at: usize, x: u64) -> usize
+    requires { ⌜ at + 5 ≤ length (now buf) ⌝ }
+    ensures { λ r. ⌜ Laid (now (buf .entry)) at (field x) (now (buf .exit)) r ⌝ }
+{
+    let t = [
+        digit(x / 4096 % 16),
+        digit(x / 256 % 16),
+        digit(x / 16 % 16),
+        digit(x % 16),
+        b' ',
+    ];
+    buffer::copy(buf, at, &t)
+}
