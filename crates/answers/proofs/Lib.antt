@@ -1,3 +1,3 @@
-pub mod Laws
+pub mod LowestClosed
 pub mod Named
 pub mod Given

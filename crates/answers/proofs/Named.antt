@@ -14,6 +14,7 @@ use Rattle.network.specs.declared.Refusal.{Refusal}
 use Rattle.network.specs.declared.Refusal.the-variants.{BitPastEnd, NotAGate, TableTooWide}
 use Rattle.network.specs.declared.Answer.{Answer}
 use Rattle.network.specs.declared.Answer.the-variants.{Done, Refused}
+use Rattle.network.specs.Bounds.{mostGates, mostFanins}
 use Rattle.network.specs.Net.{Gate, isGate, gate, arity, Replacement, replaced}
 use Rattle.network.specs.Flat.{gateAt, loadedNet, currentNet}
 use Rattle.network.specs.Tests.{refuseIf, first, widthTest}
@@ -49,8 +50,8 @@ pub record Named (s : Session) (k : ℕ) : Type 0 where
   pub valid : stateFault s ≡ Done
   pub low : s .n ≤ k
   pub high : k < s .n + s .m
-  pub most : s .m ≤ 40
-  pub few : arityOf s (k - s .n) ≤ 4
+  pub most : s .m ≤ mostGates
+  pub few : arityOf s (k - s .n) ≤ mostFanins
 
 pub named : (s : Session) (k : ℕ) (rest : List Answer) → first (stateTest s ∷ gateTest (loadedNet s) k ∷ rest) ≡ Done → Named s k
 unfolding gateTest
@@ -62,8 +63,8 @@ named s k rest e =
       valid = v;
       low = b .0;
       high = b .1;
-      most = count-e 40 (s .m) (valid-e s v .gates) .1;
-      few = count-e 4 (arityOf s (k - s .n)) (valid-e s v .gate (k - s .n) (omega arith) .arity-fine) .1;
+      most = count-e mostGates (s .m) (valid-e s v .gates) .1;
+      few = count-e mostFanins (arityOf s (k - s .n)) (valid-e s v .gate (k - s .n) (omega arith) .arity-fine) .1;
     }
 
 pub exchange-named : (s : Session) (r : Replacement) {a : Answer} → a ≡ exchangeAnswer s r → a ≡ Done → Named s (r .signal)

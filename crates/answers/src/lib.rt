@@ -7,6 +7,7 @@ ghost use Prim.Native.Nat.{_^_, _≤_};
 ghost use Rattle.bits.specs.Range.{smallest};
 ghost use Rattle.bits.specs.Bit.{bit, differs};
 ghost use Rattle.network.specs.declared.Answer.the-variants.{Done};
+ghost use Rattle.network.specs.Bounds.{mostFanins};
 ghost use Rattle.network.specs.Flat.{loadedNet};
 ghost use Rattle.network.specs.Tests.{first};
 ghost use Rattle.network.specs.State.{stateFault, stateTest};
@@ -21,19 +22,19 @@ use network::WriteAnswer;
 
 // The lowest entry of k fan-ins' tables that differs and is not open.
 fn first_closed(k: u8, loaded: u64, table: u64, opens: u64) -> Answer
-    requires { ⌜ k ≤ 4 ⌝ }
+    requires { ⌜ k ≤ mostFanins ⌝ }
     ensures { λ r. ⌜ r ≡ entryFound (smallest (2 ^ k) (λ t. not (bit opens t) && differs (bit loaded t) (bit table t))) ⌝ }
 {
     let entries = entries::entry_count(network::place(k));
-    let altered = (loaded ^ table) & (bits::invert(opens) & bits::mask(entries));
+    let altered = (loaded ^ table) & (bits::complement(opens) & bits::mask(entries));
     if altered == 0 {
         return Answer::Done;
     }
-    let t = bits::first(altered);
+    let t = bits::lowest_bit(altered);
     Answer::Refused(Refusal::ClosedEntry(t as usize))
 }
 
-// 11.
+// Refusal 11: no gate has that signal number.
 fn gate_test(s: Session, gate: usize) -> Answer
     requires { ⌜ stateFault s ≡ Done ⌝ }
     ensures { λ r. ⌜ r ≡ first (stateTest s ∷ gateTest (loadedNet s) gate ∷ []) ⌝ }
@@ -49,7 +50,7 @@ fn gate_test(s: Session, gate: usize) -> Answer
     Answer::Done
 }
 
-// 11, then 12.
+// Refusal 11, then 12: the table has a bit past its entries.
 fn replacement_test(s: Session, gate: usize, table: u64) -> Answer
     requires { ⌜ stateFault s ≡ Done ⌝ }
     ensures { λ r. ⌜ r ≡ first (stateTest s ∷ gateTest (loadedNet s) gate ∷ tableTest (loadedNet s) (record { signal = gate; table = table }) ∷ []) ⌝ }

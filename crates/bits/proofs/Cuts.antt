@@ -10,6 +10,7 @@ use lib.Dec.{ltb, lit<, lit≤}
 use lib.Pow.{pow-add, pow-mono, pow-pos, pow-lt, shl-exact}
 use lib.Bits.{bitOr, or-lt}
 use borrow.Author.Tests.{ltb-true, lt-ltb, le-ltb}
+use Rattle.bits.specs.Bounds.{mostInputs, rowWords}
 use Rattle.bits.specs.Range.{num, every, any, count}
 use Rattle.bits.specs.Bit.{bit, tableOf}
 use Rattle.bits.specs.Cut.{Cut, wordCount, Framed}
@@ -25,11 +26,11 @@ small n h =
     let e : 2 ^ n ≤ 64 = pow-mono {j = 6} (omega arith) in
     record { words = lit≤ tt; places = e; word = λ x l. omega arith; place = λ x l. omega arith; pattern = λ w b lw lb. omega arith; whole = inl (refl, refl) }
 
-pub large : (n : ℕ) → 6 ≤ n → n ≤ 10 → Cut n (2 ^ (n - 6)) 64
+pub large : (n : ℕ) → 6 ≤ n → n ≤ mostInputs → Cut n (2 ^ (n - 6)) 64
 large n h l =
     let s : n ≡ n - 6 + 6 = omega arith in
     let e : 2 ^ n ≡ 2 ^ (n - 6) * 64 = ap (λ (k : ℕ). 2 ^ k) s ∙ pow-add 2 (n - 6) 6 in
-    let q : 2 ^ (n - 6) ≤ 16 = pow-mono {j = 4} (omega arith) in
+    let q : 2 ^ (n - 6) ≤ rowWords = pow-mono {j = mostInputs - 6} (omega arith) in
     record { words = q; places = lit≤ tt; word = λ x g. omega arith; place = λ x g. omega arith; pattern = λ w b lw lb. omega arith; whole = inr (refl, sym e) }
 
 -- the number of words is that of the definition

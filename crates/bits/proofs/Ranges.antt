@@ -11,6 +11,7 @@ use lib.ListN.{length, getD, set, length-append, List·getD-append}
 use lib.Pow.{pow-mono}
 use lib.Seq.{getD-at, getD-set-same, getD-set-other}
 use borrow.Author.Tests.{eq-eqb, ne-eqb}
+use Rattle.bits.specs.Bounds.{smallFanins, smallWords}
 use Rattle.bits.specs.Range.{num, every, any, places}
 use Rattle.bits.specs.Bit.{bit, number, tableOf, column}
 use Rattle.bits.proofs.BitLaws.{bit-zero, some-bit}
@@ -180,8 +181,8 @@ module _ (n : ℕ) (p : ℕ → Bool) (acc : ℕ) (so-far : acc ≡ tableOf n p)
   table-step b r e q = q ∙ ap₂ (λ (x : Bool) (y : ℕ). num x * 2 ^ n + y) e so-far ∙ sym (table-more n p)
 
 -- the powers that a table of up to four fan-ins meets
-pub entries-few : (k : ℕ) → k ≤ 4 → 2 ^ k ≤ 16
-entries-few k h = pow-mono {j = 4} h
+pub entries-few : (k : ℕ) → k ≤ smallFanins → 2 ^ k ≤ smallWords
+entries-few k h = pow-mono {j = smallFanins} h
 
 -- one turn of a loop that fills an array from the front
 pub filled : (l : List ℕ) (p : ℕ → ℕ) (i v : ℕ) → i < length l → ((q : ℕ) → q < i → getD l q 0 ≡ p q) → v ≡ p i

@@ -4,6 +4,7 @@ use mathlib.Core.Bool.{cond}
 use mathlib.Core.Logic.{_⊎_}
 use Prim.Native.Nat.{ℕ, _+_, _-_, _*_, _/_, _%_, _^_, _≤_, _<_}
 use lib.Dec.{ltb}
+use Rattle.bits.specs.Bounds.{rowWords}
 use Rattle.bits.specs.Bit.{bit}
 
 -- 2^n / 64 words, and at least one
@@ -12,7 +13,7 @@ wordCount n = cond (ltb n 6) 1 (2 ^ (n - 6))
 
 -- W words of L places hold each pattern at its own place
 pub record Cut (n W L : ℕ) : Type 0 where
-  pub words : W ≤ 16
+  pub words : W ≤ rowWords
   pub places : L ≤ 64
   pub word : (x : ℕ) → x < 2 ^ n → x / 64 < W
   pub place : (x : ℕ) → x < 2 ^ n → x % 64 < L

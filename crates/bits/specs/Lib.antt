@@ -1,3 +1,4 @@
+pub mod Bounds
 pub mod Range
 pub mod Bit
 pub mod Cut

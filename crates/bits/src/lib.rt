@@ -1,13 +1,27 @@
 // Words of bits: 64 patterns at once.
 ghost use mathlib.Core.Path.{_≡_};
 ghost use mathlib.Core.List.{[], _∷_};
-ghost use Prim.Native.Nat.{ℕ, _+_, _-_, _*_, _^_, _<_, _≤_};
+ghost use Prim.Native.Nat.{ℕ, _+_, _-_, _*_, _/_, _^_, _<_, _≤_};
 ghost use lib.Dec.{ltb};
 ghost use lib.ListN.{getD};
 ghost use mathlib.Core.Bool.{true, false, not, _&&_};
+ghost use Rattle.bits.specs.Bounds.{mostInputs, smallFanins, smallWords};
 ghost use Rattle.bits.specs.Cut.{Cut, Framed};
 ghost use Rattle.bits.specs.Range.{num, any, count};
 ghost use Rattle.bits.specs.Bit.{bit, choose, number, gives, Split};
+
+// The most inputs, and the words of a row: a set of patterns, 64 in a word.
+pub const MOST_INPUTS: usize = 10;
+
+pub const ROW_WORDS: usize = 1 << (MOST_INPUTS - 6);
+
+// The places for a gate's fan-ins.
+pub const GATE_PLACES: usize = 6;
+
+// The fan-ins of a small gate, one whose entries, or sets of fan-ins, are taken all at once, and the words for these, one each.
+pub const SMALL_FANINS: usize = 4;
+
+pub const SMALL_WORDS: usize = 1 << SMALL_FANINS;
 
 // What a search finds.
 pub enum Found {
@@ -33,7 +47,7 @@ pub fn mux(s: u64, hi: u64, lo: u64) -> u64
 }
 
 // The lowest bit of t, 64 times.
-pub fn fill(t: u64) -> u64
+pub fn broadcast(t: u64) -> u64
     ensures { λ r. ⌜ ((i : ℕ) → i < 64 → bit r i ≡ bit t 0) ⌝ }
 {
     if t & 1 == 1 { 0xffff_ffff_ffff_ffff } else { 0 }
@@ -44,7 +58,11 @@ pub fn input_word(i: usize, w: u64) -> u64
     requires { ⌜ i < 64 ⌝ }
     ensures { λ r. ⌜ ((b : ℕ) → b < 64 → bit r b ≡ bit (w * 64 + b) i) ⌝ }
 {
-    if i < 6 { INPUT[i] } else { fill(w >> (i - 6)) }
+    if i < 6 {
+        INPUT[i]
+    } else {
+        broadcast(w >> (i - 6))
+    }
 }
 
 // The table t at the words of one to four inputs. By Davio's expansion: the lower half, and where the last input is 1 its difference
@@ -52,7 +70,7 @@ pub fn input_word(i: usize, w: u64) -> u64
 pub fn lut1(t: u64, a: u64) -> u64
     ensures { λ r. ⌜ ((i : ℕ) → i < 64 → bit r i ≡ bit t (number (bit a i ∷ []))) ⌝ }
 {
-    fill(t) ^ (a & fill(t ^ (t >> 1)))
+    broadcast(t) ^ (a & broadcast(t ^ (t >> 1)))
 }
 
 pub fn lut2(t: u64, a: u64, b: u64) -> u64
@@ -89,7 +107,7 @@ pub fn power(e: u64) -> u64
 }
 
 // One entry more of a table that has e of them.
-pub fn more(acc: u64, e: u64, b: bool) -> u64
+pub fn with_entry(acc: u64, e: u64, b: bool) -> u64
     requires { ⌜ (e < 64) × (acc < 2 ^ e) ⌝ }
     ensures { λ r. ⌜ r ≡ num b * 2 ^ e + acc ⌝ }
 {
@@ -100,14 +118,14 @@ pub fn more(acc: u64, e: u64, b: bool) -> u64
 }
 
 // Whether a bit is set.
-pub fn some(x: u64) -> bool
+pub fn any_bit(x: u64) -> bool
     ensures { λ r. ⌜ r ≡ any 64 (bit x) ⌝ }
 {
     x != 0
 }
 
 // Each bit the other way round.
-pub fn invert(x: u64) -> u64
+pub fn complement(x: u64) -> u64
     ensures { λ r. ⌜ ((i : ℕ) → i < 64 → bit r i ≡ not (bit x i)) ⌝ }
 {
     !x
@@ -121,7 +139,7 @@ pub fn ones(x: u64) -> u32
 }
 
 // Where the lowest set bit stands, of a word that has one.
-pub fn first(x: u64) -> u32
+pub fn lowest_bit(x: u64) -> u32
     requires { ⌜ (x ≡ 0 → ⊥) ⌝ }
     ensures { λ r. ⌜ (r < 64) × (bit x r ≡ true) × ((i : ℕ) → i < r → bit x i ≡ false) ⌝ }
 {
@@ -147,7 +165,7 @@ struct Extent {
 }
 
 fn size(n: usize) -> Extent
-    requires { ⌜ n ≤ 10 ⌝ }
+    requires { ⌜ n ≤ mostInputs ⌝ }
     ensures { λ r. ⌜ Cut n (r .words) (r .places) ⌝ }
 {
     if n < 6 {
@@ -170,7 +188,7 @@ pub struct Frame {
 }
 
 pub fn frame_of(n: usize) -> Frame
-    requires { ⌜ n ≤ 10 ⌝ }
+    requires { ⌜ n ≤ mostInputs ⌝ }
     ensures { λ r. ⌜ Framed n (r .count) (r .live) ⌝ }
 {
     let z = size(n);
@@ -182,7 +200,7 @@ pub fn frame_of(n: usize) -> Frame
 }
 
 // The entries below n that a table leaves out.
-pub fn rest(n: u32, x: u64) -> u64
+pub fn complement_within(n: u32, x: u64) -> u64
     requires { ⌜ (n ≤ 64) × (x < 2 ^ n) ⌝ }
     ensures { λ r. ⌜ r ≡ 2 ^ n - 1 - x ⌝ }
 {
@@ -190,8 +208,8 @@ pub fn rest(n: u32, x: u64) -> u64
 }
 
 // Each of the first size words in two: its part in lo at its place, its part in hi size places on.
-fn split(given: [u64; 16], size: usize, lo: u64, hi: u64) -> [u64; 16]
-    requires { ⌜ size ≤ 8 ⌝ }
+fn split(given: [u64; SMALL_WORDS], size: usize, lo: u64, hi: u64) -> [u64; SMALL_WORDS]
+    requires { ⌜ size ≤ smallWords / 2 ⌝ }
     ensures { λ l. ⌜ Split given l size lo hi size ⌝ }
 {
     let mut words = given;
@@ -205,17 +223,22 @@ fn split(given: [u64; 16], size: usize, lo: u64, hi: u64) -> [u64; 16]
 }
 
 // The minterm words of k fan-ins: word t has the places of keep at which the first k words' bits give entry t, words that are free there aside.
-pub fn minterms(k: usize, ins: &[u64; 6], frees: &[u64; 6], keep: u64) -> [u64; 16]
-    requires { ⌜ k ≤ 4 ⌝ }
+pub fn minterms(
+    k: usize,
+    ins: &[u64; GATE_PLACES],
+    frees: &[u64; GATE_PLACES],
+    keep: u64,
+) -> [u64; SMALL_WORDS]
+    requires { ⌜ k ≤ smallFanins ⌝ }
     ensures { λ r. ⌜ ((t : ℕ) → t < 2 ^ k → (b : ℕ) → b < 64 → bit (getD r t 0) b ≡ (bit keep b && gives k (now (ins .entry)) (now (frees .entry)) t b)) ⌝ }
 {
-    let mut words = [0u64; 16];
+    let mut words = [0u64; SMALL_WORDS];
     words[0] = keep;
     let mut r = 0;
     while r < k {
         let value = ins[r];
         let free = frees[r];
-        words = split(words, 1 << r, free | invert(value), free | value);
+        words = split(words, 1 << r, free | complement(value), free | value);
         r += 1;
     }
     words

@@ -10,18 +10,19 @@ use Rattle.bits.specs.Lists.{overwritten}
 use Rattle.buffer.specs.Laid.{Laid}
 use Rattle.buffer.proofs.Laying.{laid-append, laid-length, laid-start}
 use Rattle.network.specs.declared.Session.{Session}
+use Rattle.network.specs.Bounds.{mostFanins}
 use Rattle.network.specs.DontCares.{sdc}
 use Rattle.network.specs.Flat.{currentNet}
 use Rattle.dontcares.specs.Tabled.{Tabled}
-use Rattle.boundary.specs.Boundary.{allTableWords}
+use Rattle.boundary.specs.Boundary.{allTableWords, tablesRoom}
 
-module _ (s : Session) (g : ℕ) {b b₁ : List ℕ} (l : Laid b 0 (allTableWords s g) b₁ (4 * g)) where
-  pub row-room : g < s .m → 4 * s .m ≤ length b → 4 * g + 4 ≤ length b₁
+module _ (s : Session) (g : ℕ) {b b₁ : List ℕ} (l : Laid b 0 (allTableWords s g) b₁ (tablesRoom * g)) where
+  pub row-room : g < s .m → tablesRoom * s .m ≤ length b → tablesRoom * g + mostFanins ≤ length b₁
   row-room h r = let n = laid-length l in omega arith
 
   pub row-next : {cdcs fulls b₂ : List ℕ} {d : ℕ} → Tabled (currentNet s) cdcs fulls (s .n) 0 (s .m) → g < s .m → d ≡ sdc (currentNet s) (s .n + g)
-      → b₂ ≡ sets b₁ (4 * g) (d ∷ getD cdcs g 0 ∷ getD fulls g 0 ∷ getD (s .open_tables) g 0 ∷ [])
-      → Laid b 0 (allTableWords s (g + 1)) b₂ (4 * (g + 1))
+      → b₂ ≡ sets b₁ (tablesRoom * g) (d ∷ getD cdcs g 0 ∷ getD fulls g 0 ∷ getD (s .open_tables) g 0 ∷ [])
+      → Laid b 0 (allTableWords s (g + 1)) b₂ (tablesRoom * (g + 1))
   row-next t h e q =
       let p : s .n + g - s .n ≡ g = omega arith in
       let at = t .at g (omega arith) h in
@@ -30,8 +31,8 @@ module _ (s : Session) (g : ℕ) {b b₁ : List ℕ} (l : Laid b 0 (allTableWord
         behind = omega arith;
       }))
 
-  pub rows-done : g ≡ s .m → 4 * s .m ≤ length b → b₁ ≡ overwritten (allTableWords s (s .m)) b
+  pub rows-done : g ≡ s .m → tablesRoom * s .m ≤ length b → b₁ ≡ overwritten (allTableWords s (s .m)) b
   rows-done e r =
-      let k : Laid b 0 (allTableWords s (s .m)) b₁ (4 * s .m) = rw e at l in
+      let k : Laid b 0 (allTableWords s (s .m)) b₁ (tablesRoom * s .m) = rw e at l in
       let n = k .behind in
-      laid-start b (allTableWords s (s .m)) b₁ (4 * s .m) (omega arith) k .1
+      laid-start b (allTableWords s (s .m)) b₁ (tablesRoom * s .m) (omega arith) k .1

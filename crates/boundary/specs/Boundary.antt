@@ -79,8 +79,12 @@ onSession work session buffer out =
 abbrev pub tableWords : Tables → List ℕ
 tableWords t = t .sdc ∷ t .cdc ∷ t .full ∷ t .open_table ∷ []
 
+-- how many words these are
+abbrev pub tablesRoom : ℕ
+tablesRoom = 4
+
 abbrev pub tablesWork : ℕ → Session → Work
-tablesWork gate s = record { room = 4; tests = gateTest (loadedNet s) gate ∷ []; given = tableWords (gateTables s gate); new = [] }
+tablesWork gate s = record { room = tablesRoom; tests = gateTest (loadedNet s) gate ∷ []; given = tableWords (gateTables s gate); new = [] }
 
 unfoldable pub tablesCall : (session : List ℕ) (gate : ℕ) (out : List ℕ) → Left
 tablesCall session gate out = onSession (tablesWork gate) session [] out
@@ -91,7 +95,7 @@ allTableWords s zero = []
 allTableWords s (suc g) = allTableWords s g ++ tableWords (gateTables s (s .n + g))
 
 abbrev pub allTablesWork : Session → Work
-allTablesWork s = record { room = 4 * s .m; tests = []; given = allTableWords s (s .m); new = [] }
+allTablesWork s = record { room = tablesRoom * s .m; tests = []; given = allTableWords s (s .m); new = [] }
 
 unfoldable pub allTablesCall : (session out : List ℕ) → Left
 allTablesCall session out = onSession allTablesWork session [] out

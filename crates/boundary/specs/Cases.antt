@@ -1,12 +1,12 @@
 -- Cases of the calls, each computed and held against what 01 says of the twin network, or of a refusal.
 -- A case is a pair: what the definitions give, and what is stated. Assumes nothing.
 use mathlib.Core.List.{List, [], _∷_, _++_}
-use Prim.Native.Nat.{ℕ}
+use Prim.Native.Nat.{ℕ, _+_, _-_}
 use lib.ListN.{set, take, replicate}
 use Rattle.text.specs.Ascii.{ascii}
 use Rattle.network.specs.Net.{Replacement}
 use Rattle.network.specs.Cases.{twinBytes, twinSession}
-use Rattle.packed.specs.Packed.{packedOf}
+use Rattle.packed.specs.Packed.{packedOf, outputsStart, currentStart, sessionWords}
 use Rattle.boundary.specs.Boundary.{Left, loadCall, listingCall, tablesCall, allTablesCall, patternSetsCall, hiddenCall, verdictCall, exchangeCall, writeCall}
 
 -- the twin network's session, with one word behind it
@@ -17,9 +17,9 @@ words = packedOf twinSession ++ 9 ∷ []
 abbrev pub cleared : ℕ → Replacement
 cleared g = record { signal = g; table = 0 }
 
--- the same once gate 1 has table 0: its current table stands at place 347
+-- the same once gate 1 has table 0: its current table is the first
 abbrev pub changed : List ℕ
-changed = set words 347 0
+changed = set words currentStart 0
 
 -- the number and every word of out; the number and every place of the buffer
 abbrev pub told : Left → List ℕ
@@ -42,13 +42,13 @@ cases =
     ∷ (told (writeCall words (replicate 28 7) (7 ∷ [])), 0 ∷ 27 ∷ [])
     ∷ (laid (writeCall words (replicate 28 7) (7 ∷ [])), 0 ∷ twinBytes ++ 7 ∷ [])
     -- a loaded file, and the line of a refused one
-    ∷ (laid (loadCall twinBytes (replicate 428 9)), 0 ∷ words)
+    ∷ (laid (loadCall twinBytes (replicate (sessionWords + 1) 9)), 0 ∷ words)
     ∷ (told (listingCall (take 26 twinBytes) (replicate 11 7) (7 ∷ 7 ∷ [])), 0 ∷ 10 ∷ 7 ∷ [])
     ∷ (laid (listingCall (take 26 twinBytes) (replicate 11 7) (7 ∷ 7 ∷ [])), 0 ∷ ascii "refused 1\n" ++ 7 ∷ [])
     -- a refusal leaves what is lent: too short, no session, no room, no gate
-    ∷ (told (exchangeCall (take 426 words) (cleared 1) []), 9 ∷ [])
-    ∷ (told (exchangeCall (replicate 427 0) (cleared 1) []), 10 ∷ [])
-    ∷ (told (exchangeCall (set words 282 256) (cleared 1) (7 ∷ [])), 10 ∷ 7 ∷ [])
+    ∷ (told (exchangeCall (take (sessionWords - 1) words) (cleared 1) []), 9 ∷ [])
+    ∷ (told (exchangeCall (replicate sessionWords 0) (cleared 1) []), 10 ∷ [])
+    ∷ (told (exchangeCall (set words (outputsStart - 1) 256) (cleared 1) (7 ∷ [])), 10 ∷ 7 ∷ [])
     ∷ (told (verdictCall words (cleared 0) (7 ∷ [])), 9 ∷ 7 ∷ [])
     ∷ (told (tablesCall words 4 (replicate 4 7)), 11 ∷ 7 ∷ 7 ∷ 7 ∷ 7 ∷ [])
     -- the file's refusals come before the session's room

@@ -10,7 +10,7 @@ ghost use Rattle.network.specs.declared.Refusal.the-variants.{BufferTooShort};
 ghost use Rattle.network.specs.Refusals.{numberOf, valuesOf};
 ghost use Rattle.network.specs.Tests.{refuseIf, first};
 ghost use Rattle.network.specs.State.{stateFault};
-ghost use Rattle.boundary.specs.Boundary.{allTableWords};
+ghost use Rattle.boundary.specs.Boundary.{allTableWords, tablesRoom};
 use network::Answer;
 use network::Refusal;
 use network::Session;
@@ -54,9 +54,12 @@ pub fn room(a: Answer, lent: usize, needed: usize) -> Answer
     Answer::Done
 }
 
+// The words of a gate's tables: SDC, CDC, full and open.
+pub const TABLES_ROOM: usize = 4;
+
 // The tables of each gate of a session, gate after gate.
 pub fn put_tables(s: Session, out: &mut [u64])
-    requires { ⌜ (stateFault s ≡ Done) × (4 * s .m ≤ length (now out)) ⌝ }
+    requires { ⌜ (stateFault s ≡ Done) × (tablesRoom * s .m ≤ length (now out)) ⌝ }
     ensures { λ _. ⌜ now (out .exit) ≡ overwritten (allTableWords s (s .m)) (now (out .entry)) ⌝ }
 {
     let m = s.m as usize;
@@ -67,7 +70,7 @@ pub fn put_tables(s: Session, out: &mut [u64])
     let mut g: usize = 0;
     while g < m {
         let row = [dontcares::sdc(s, g), cdc[g], full[g], opens[g]];
-        buffer::lay_words(out, 4 * g, &row);
+        buffer::lay_words(out, TABLES_ROOM * g, &row);
         g += 1;
     }
 }

@@ -65,45 +65,45 @@ lay-four {b₁} {b₂} {b₃} b ws xs ys zs at i j k e f g h p q r =
 -- ## In a loop
 
 -- with `rest` laid into b from place a on, all of `whole` stands in b₀ from place `at` on
-pub record Left (b₀ : List ℕ) (at : ℕ) (whole b : List ℕ) (a : ℕ) (rest : List ℕ) : Type 0 where
+pub record Pending (b₀ : List ℕ) (at : ℕ) (whole b : List ℕ) (a : ℕ) (rest : List ℕ) : Type 0 where
   pub long : length b ≡ length b₀
   pub place : a + length rest ≡ at + length whole
   pub same : sets b a rest ≡ sets b₀ at whole
 
-pub left-start : (b whole : List ℕ) (at : ℕ) → Left b at whole b at whole
-left-start b whole at = record { long = refl; place = refl; same = refl }
+pub pending-start : (b whole : List ℕ) (at : ℕ) → Pending b at whole b at whole
+pending-start b whole at = record { long = refl; place = refl; same = refl }
 
-pub left-step : {b₀ whole b xs b₁ todo : List ℕ} {at a r : ℕ} (rest : List ℕ) → Left b₀ at whole b a todo → todo ≡ xs ++ rest → Laid b a xs b₁ r
-    → Left b₀ at whole b₁ r rest
-left-step {b₀} {whole} {b} {xs} {b₁} {todo} {at} {a} {r} rest l e n = record {
+pub pending-step : {b₀ whole b xs b₁ todo : List ℕ} {at a r : ℕ} (rest : List ℕ) → Pending b₀ at whole b a todo → todo ≡ xs ++ rest → Laid b a xs b₁ r
+    → Pending b₀ at whole b₁ r rest
+pending-step {b₀} {whole} {b} {xs} {b₁} {todo} {at} {a} {r} rest l e n = record {
   long = laid-length n ∙ l .long;
   place = let p = l .place in let q = n .behind in let k = ap length e ∙ length-append xs rest in omega arith;
   same = rw (n .buffer, n .behind, sets-append xs b rest a, ← e) (l .same);
 }
 
-pub left-room : {b₀ whole b todo : List ℕ} {at a : ℕ} (xs rest : List ℕ) → Left b₀ at whole b a todo → todo ≡ xs ++ rest → Room b₀ at whole → Room b a xs
-left-room xs rest l e h = let p = l .place in let q = l .long in let k = ap length e ∙ length-append xs rest in omega arith
+pub pending-room : {b₀ whole b todo : List ℕ} {at a : ℕ} (xs rest : List ℕ) → Pending b₀ at whole b a todo → todo ≡ xs ++ rest → Room b₀ at whole → Room b a xs
+pending-room xs rest l e h = let p = l .place in let q = l .long in let k = ap length e ∙ length-append xs rest in omega arith
 
-pub left-done : {b₀ whole b todo : List ℕ} {at a : ℕ} → Left b₀ at whole b a todo → todo ≡ [] → Laid b₀ at whole b a
-left-done l e = record { buffer = rw e at (l .same); behind = let p = l .place in let k = ap length e in omega arith }
+pub pending-done : {b₀ whole b todo : List ℕ} {at a : ℕ} → Pending b₀ at whole b a todo → todo ≡ [] → Laid b₀ at whole b a
+pending-done l e = record { buffer = rw e at (l .same); behind = let p = l .place in let k = ap length e in omega arith }
 
 -- one byte or word
 pub stored : (b : List ℕ) (a x v : ℕ) → v ≡ x → Laid b a (x ∷ []) (set b a v) (a + 1)
 stored b a x v e = record { buffer = rw e; behind = refl }
 
 -- of xs, from place `at` on, the first i are laid, and the next goes to place a
-module _ {b₀ xs b : List ℕ} {at a : ℕ} (i : ℕ) (l : Left b₀ at xs b a (drop i xs)) where
+module _ {b₀ xs b : List ℕ} {at a : ℕ} (i : ℕ) (l : Pending b₀ at xs b a (drop i xs)) where
   rest : i < length xs → drop i xs ≡ (getD xs i 0 ∷ []) ++ drop (i + 1) xs
   rest h = rw add-one (drop-cons xs i 0 h)
 
   pub lay-place : i < length xs → Room b₀ at xs → a < length b
-  lay-place h r = let k : a + 1 ≤ length b = left-room (getD xs i 0 ∷ []) (drop (i + 1) xs) l (rest h) r in omega arith
+  lay-place h r = let k : a + 1 ≤ length b = pending-room (getD xs i 0 ∷ []) (drop (i + 1) xs) l (rest h) r in omega arith
 
-  pub lay-more : i < length xs → Left b₀ at xs (set b a (getD xs i 0)) (a + 1) (drop (i + 1) xs)
-  lay-more h = left-step (drop (i + 1) xs) l (rest h) (stored b a (getD xs i 0) (getD xs i 0) refl)
+  pub lay-more : i < length xs → Pending b₀ at xs (set b a (getD xs i 0)) (a + 1) (drop (i + 1) xs)
+  lay-more h = pending-step (drop (i + 1) xs) l (rest h) (stored b a (getD xs i 0) (getD xs i 0) refl)
 
   pub lay-all : length xs ≤ i → Laid b₀ at xs b a
-  lay-all h = left-done l (drop-of-length-le xs h)
+  lay-all h = pending-done l (drop-of-length-le xs h)
 
 -- ## A part of a list, place by place
 

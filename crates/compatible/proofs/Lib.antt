@@ -1,4 +1,4 @@
-pub mod Laws
+pub mod BackwardSteps
 pub mod Stores
 pub mod SetLaws
 pub mod Loaded

@@ -5,9 +5,11 @@ use Prim.Native.Nat.{ℕ, _+_, _*_, _<_}
 use native.Mathlib.Omega.{arith}
 use lib.Bits.{bitAnd}
 use lib.ListN.{getD}
+use Rattle.bits.specs.Bounds.{rowWords}
 use Rattle.bits.specs.Cut.{Framed}
 use Rattle.network.specs.declared.Session.{Session}
 use Rattle.network.specs.declared.Answer.the-variants.{Done}
+use Rattle.network.specs.Bounds.{mostSignals}
 use Rattle.network.specs.Compatible.{compatible, compatibleCount, perGate}
 use Rattle.network.specs.Flat.{netOf, loadedNet}
 use Rattle.network.specs.State.{stateFault}
@@ -19,7 +21,7 @@ use Rattle.compatible.proofs.Stores.{counts-by}
 use Rattle.compatible.proofs.SetLaws.{set-words}
 
 module _ (s : Session) (n m p : ℕ) (en : n ≡ s .n) (em : m ≡ s .m) (ep : p ≡ s .p) where
-  pub net-fine : stateFault s ≡ Done → NetOk (s .arity) (s .fanins) n m × OutputsOk (s .outputs) p 50
+  pub net-fine : stateFault s ≡ Done → NetOk (s .arity) (s .fanins) n m × OutputsOk (s .outputs) p mostSignals
   net-fine e =
       let N = net-ok s e in
       let o = outputs-ok s e in
@@ -33,7 +35,7 @@ module _ (s : Session) (n m p : ℕ) (en : n ≡ s .n) (em : m ≡ s .m) (ep : p
 module _ (s : Session) (n m : ℕ) (en : n ≡ s .n) (em : m ≡ s .m) where
   -- H of each gate, by the rows
   pub sets-are : {hs : List ℕ} {count live : ℕ} → stateFault s ≡ Done → LoadedSets s hs count live
-      → (l : List ℕ) → ((g w : ℕ) → g < m → w < count → getD l (16 * g + w) 0 ≡ bitAnd live (getD (wordsAt hs w) (n + g) 0)) → SetWords s l
+      → (l : List ℕ) → ((g w : ℕ) → g < m → w < count → getD l (rowWords * g + w) 0 ≡ bitAnd live (getD (wordsAt hs w) (n + g) 0)) → SetWords s l
   unfolding loadedNet
   sets-are {hs} e r l words g w hg hw =
       set-words (s .arity) (s .fanins) (s .loaded) (s .excluded) (s .outputs) (s .n) (s .m) (s .p) (net-ok s e) hs (r .frame) (r .rows) l
@@ -41,9 +43,9 @@ module _ (s : Session) (n m : ℕ) (en : n ≡ s .n) (em : m ≡ s .m) where
 
   -- and how many patterns it has
   pub counts-are : {count live : ℕ} (l : List ℕ) → Framed n count live → SetWords s l
-      → perGate m (λ g. onesIn l (16 * g) count) ≡ perGate (s .m) (λ g. compatibleCount (loadedNet s) (s .n + g))
+      → perGate m (λ g. onesIn l (rowWords * g) count) ≡ perGate (s .m) (λ g. compatibleCount (loadedNet s) (s .n + g))
   unfolding compatibleCount loadedNet netOf
   counts-are {count} {live} l f words =
       let F : Framed (s .n) count live = rw en at f in
-      ap (λ (k : ℕ). perGate k (λ g. onesIn l (16 * g) count)) em
+      ap (λ (k : ℕ). perGate k (λ g. onesIn l (rowWords * g) count)) em
       ∙ counts-by F (s .m) l (λ g. compatible (loadedNet s) (s .n + g)) (λ g w h hw. words g w h (omega (arith, F .words)))

@@ -10,6 +10,7 @@ use lib.Bits.{bitAnd}
 use lib.ListN.{length, getD, set}
 use lib.Seq.{getD-set-same, getD-set-other, getD-take}
 use borrow.Author.Tests.{le-leb, lt-leb}
+use Rattle.bits.specs.Bounds.{rowWords, gatePlaces}
 use Rattle.bits.specs.Range.{_⇒_, every, places}
 use Rattle.bits.specs.Bit.{bit, column}
 use Rattle.bits.specs.Cut.{Framed}
@@ -19,7 +20,7 @@ use Rattle.network.specs.Net.{Gate, Net, arity, noGate, entry, values, excluded
 use Rattle.network.specs.Compatible.{edgeSet, atOutputs, compatibleFrom, compatible}
 use Rattle.network.specs.Flat.{gateAt, gatesOf, netOf, wordOf}
 use Rattle.network.specs.Valid.{NetOk}
-use Rattle.network.proofs.Laws.{entry-ext, length-gates}
+use Rattle.network.proofs.FlatGates.{entry-ext, length-gates}
 use Rattle.network.proofs.Earlier.{gates-at}
 use Rattle.simulate.specs.Simulated.{Simulated, wordsAt}
 use Rattle.compatible.specs.Words.{outputsLeave, SetRows}
@@ -68,7 +69,7 @@ module _ (ks fs ts ex outs : List ℕ) (n m p : ℕ) where
       same-entry : (g : ℕ) → g < m → entry (column ws b) (gateAt ks fs ts g) ≡ entry (values N x) (gateAt ks fs ts g)
       same-entry g h =
           entry-ext ks fs ts (column ws b) (values N x) g
-          (λ r l. column-at ws b (getD fs (6 * g + r) 0) ∙ sym (value-at (getD fs (6 * g + r) 0) (omega (arith, ok .gate g h .early r l))))
+          (λ r l. column-at ws b (getD fs (gatePlaces * g + r) 0) ∙ sym (value-at (getD fs (gatePlaces * g + r) 0) (omega (arith, ok .gate g h .early r l))))
 
       -- what the outputs leave, by the word of excluded patterns
       start-is : (s : ℕ) → outputsLeave outs p (bit (getD ex w 0) b) s ≡ atOutputs N x s
@@ -90,8 +91,8 @@ module _ (ks fs ts ex outs : List ℕ) (n m p : ℕ) where
     -- ## H of each gate in all words
 
     pub set-words : (hs : List ℕ) {count live : ℕ} → Framed n count live → SetRows N hs (n + m) count
-        → (l : List ℕ) → ((g w : ℕ) → g < m → w < count → getD l (16 * g + w) 0 ≡ bitAnd live (getD (wordsAt hs w) (n + g) 0))
-        → (g w : ℕ) → g < m → w < count → getD l (16 * g + w) 0 ≡ wordOf n (compatible N (n + g)) w
+        → (l : List ℕ) → ((g w : ℕ) → g < m → w < count → getD l (rowWords * g + w) 0 ≡ bitAnd live (getD (wordsAt hs w) (n + g) 0))
+        → (g w : ℕ) → g < m → w < count → getD l (rowWords * g + w) 0 ≡ wordOf n (compatible N (n + g)) w
     set-words hs f found l words g w hg hw =
         words g w hg hw
         ∙ word-is f w (getD (wordsAt hs w) (n + g) 0) (compatible N (n + g)) hw (λ b hb. found w hw b hb (n + g) (omega arith))

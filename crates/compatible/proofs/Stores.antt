@@ -12,12 +12,14 @@ use lib.Bits.{bitAnd, and-le-l}
 use lib.ListN.{length, getD, set, replicate, getD-replicate}
 use lib.Seq.{getD-set-same, getD-set-other, ext-getD}
 use borrow.Author.Tests.{lt-ltb, le-ltb}
+use Rattle.bits.specs.Bounds.{rowWords}
 use Rattle.bits.specs.Range.{count}
 use Rattle.bits.specs.Bit.{bit, tableOf}
 use Rattle.bits.specs.Cut.{Framed}
 use Rattle.bits.proofs.BitLaws.{bit-and, bit-ext}
 use Rattle.bits.proofs.Ranges.{Changed, lt-cases, length-places, places-at, places-ext, table-lt, bit-table}
 use Rattle.bits.proofs.Cuts.{live-at, countBy, count-ext, count-le, count-cut}
+use Rattle.network.specs.Bounds.{mostGates}
 use Rattle.network.specs.Flat.{wordOf}
 use Rattle.network.specs.Compatible.{perGate}
 use Rattle.compatible.specs.Words.{onesIn}
@@ -33,12 +35,12 @@ word-is {n} {W} {live} f w h q hw set-at =
 
 -- one more word of each gate
 pub sets-step : (q : ℕ → ℕ → ℕ) (w m : ℕ) (l l′ : List ℕ)
-    → ((g v : ℕ) → g < m → v < w → getD l (16 * g + v) 0 ≡ q g v)
-    → ((g : ℕ) → g < m → getD l′ (16 * g + w) 0 ≡ q g w)
-    → ((g v : ℕ) → v < w → getD l′ (16 * g + v) 0 ≡ getD l (16 * g + v) 0)
-    → (g v : ℕ) → g < m → v < w + 1 → getD l′ (16 * g + v) 0 ≡ q g v
+    → ((g v : ℕ) → g < m → v < w → getD l (rowWords * g + v) 0 ≡ q g v)
+    → ((g : ℕ) → g < m → getD l′ (rowWords * g + w) 0 ≡ q g w)
+    → ((g v : ℕ) → v < w → getD l′ (rowWords * g + v) 0 ≡ getD l (rowWords * g + v) 0)
+    → (g v : ℕ) → g < m → v < w + 1 → getD l′ (rowWords * g + v) 0 ≡ q g v
 sets-step q w m l l′ done own kept g v hg hv =
-    lt-cases v w (omega arith) (λ h. kept g v h ∙ done g v hg h) (λ e. subst (λ (i : ℕ). getD l′ (16 * g + i) 0 ≡ q g i) (sym e) (own g hg))
+    lt-cases v w (omega arith) (λ h. kept g v h ∙ done g v hg h) (λ e. subst (λ (i : ℕ). getD l′ (rowWords * g + i) 0 ≡ q g i) (sym e) (own g hg))
 
 -- ## The ones of a set
 
@@ -70,33 +72,33 @@ ones-are {n} {W} {live} f at ws q words = by W (omega arith) ∙ count-cut f q
 -- ## One place a gate
 
 -- one more gate's word w, sixteen words a gate
-pub stored : (l : List ℕ) (p : ℕ → ℕ) (w i v : ℕ) → 16 * i + w < length l → ((q : ℕ) → q < i → getD l (16 * q + w) 0 ≡ p q) → v ≡ p i
-    → (q : ℕ) → q < i + 1 → getD (set l (16 * i + w) v) (16 * q + w) 0 ≡ p q
+pub stored : (l : List ℕ) (p : ℕ → ℕ) (w i v : ℕ) → rowWords * i + w < length l → ((q : ℕ) → q < i → getD l (rowWords * q + w) 0 ≡ p q) → v ≡ p i
+    → (q : ℕ) → q < i + 1 → getD (set l (rowWords * i + w) v) (rowWords * q + w) 0 ≡ p q
 stored l p w i v h so-far e q lq = go (ℕ-discrete q i)
   where
-    go : Dec (q ≡ i) → getD (set l (16 * i + w) v) (16 * q + w) 0 ≡ p q
-    go (yes s) = rw s (getD-set-same l (16 * i + w) v 0 h ∙ e)
-    go (no n) = getD-set-other l (16 * i + w) (16 * q + w) v 0 (λ s. n (omega arith)) ∙ so-far q (omega arith)
+    go : Dec (q ≡ i) → getD (set l (rowWords * i + w) v) (rowWords * q + w) 0 ≡ p q
+    go (yes s) = rw s (getD-set-same l (rowWords * i + w) v 0 h ∙ e)
+    go (no n) = getD-set-other l (rowWords * i + w) (rowWords * q + w) v 0 (λ s. n (omega arith)) ∙ so-far q (omega arith)
 
-pub per-gate : (l : List ℕ) (p : ℕ → ℕ) (m : ℕ) → length l ≡ 40 → Changed (λ g v. p g) (replicate 40 0) l m → l ≡ perGate m p
-per-gate l p m h c = ext-getD 0 l (perGate m p) (h ∙ sym (length-places 40 f)) (λ g lg. go g (omega arith) (decLt g m) ∙ sym (places-at 0 40 f g (omega arith)))
+pub per-gate : (l : List ℕ) (p : ℕ → ℕ) (m : ℕ) → length l ≡ mostGates → Changed (λ g v. p g) (replicate mostGates 0) l m → l ≡ perGate m p
+per-gate l p m h c = ext-getD 0 l (perGate m p) (h ∙ sym (length-places mostGates f)) (λ g lg. go g (omega arith) (decLt g m) ∙ sym (places-at 0 mostGates f g (omega arith)))
   where
     f : ℕ → ℕ
     f g = cond (ltb g m) (p g) 0
 
-    go : (g : ℕ) → g < 40 → Dec (g < m) → getD l g 0 ≡ f g
+    go : (g : ℕ) → g < mostGates → Dec (g < m) → getD l g 0 ≡ f g
     go g lg (yes lm) = rw (lt-ltb g m lm) (c .0 g lm)
-    go g lg (no n) = rw (le-ltb g m (omega arith)) (c .1 g (omega arith) ∙ getD-replicate {A = ℕ} 40 g 0 0 lg)
+    go g lg (no n) = rw (le-ltb g m (omega arith)) (c .1 g (omega arith) ∙ getD-replicate {A = ℕ} mostGates g 0 0 lg)
 
 pub per-gate-ext : (m : ℕ) (p q : ℕ → ℕ) → ((g : ℕ) → g < m → p g ≡ q g) → perGate m p ≡ perGate m q
-per-gate-ext m p q f = places-ext 40 (λ g. cond (ltb g m) (p g) 0) (λ g. cond (ltb g m) (q g) 0) (λ g lg. go g (decLt g m))
+per-gate-ext m p q f = places-ext mostGates (λ g. cond (ltb g m) (p g) 0) (λ g. cond (ltb g m) (q g) 0) (λ g lg. go g (decLt g m))
   where
     go : (g : ℕ) → Dec (g < m) → cond (ltb g m) (p g) 0 ≡ cond (ltb g m) (q g) 0
     go g (yes h) = rw (lt-ltb g m h) (f g h)
     go g (no h) = rw (le-ltb g m (omega arith))
 
 -- the ones of each gate's words, where they are the words of its set
-pub counts-by : {n W live : ℕ} → Framed n W live → (m : ℕ) (l : List ℕ) (q : ℕ → ℕ → Bool) → ((g w : ℕ) → g < m → w < W → getD l (16 * g + w) 0 ≡ wordOf n (q g) w)
-    → perGate m (λ g. onesIn l (16 * g) W) ≡ perGate m (λ g. count (2 ^ n) (q g))
+pub counts-by : {n W live : ℕ} → Framed n W live → (m : ℕ) (l : List ℕ) (q : ℕ → ℕ → Bool) → ((g w : ℕ) → g < m → w < W → getD l (rowWords * g + w) 0 ≡ wordOf n (q g) w)
+    → perGate m (λ g. onesIn l (rowWords * g) W) ≡ perGate m (λ g. count (2 ^ n) (q g))
 counts-by {n} {W} f m l q words =
-    per-gate-ext m (λ g. onesIn l (16 * g) W) (λ g. count (2 ^ n) (q g)) (λ g h. ones-are f (16 * g) l (q g) (λ w hw. words g w h hw))
+    per-gate-ext m (λ g. onesIn l (rowWords * g) W) (λ g. count (2 ^ n) (q g)) (λ g h. ones-are f (rowWords * g) l (q g) (λ w hw. words g w h hw))

@@ -5,6 +5,7 @@ use mathlib.Core.List.{List}
 use Prim.Native.Nat.{ℕ, zero, suc, _+_, _*_, _<_}
 use lib.Dec.{eqb}
 use lib.ListN.{getD}
+use Rattle.bits.specs.Bounds.{rowWords, gatePlaces}
 use Rattle.bits.specs.Range.{_⇒_, every, count}
 use Rattle.bits.specs.Bit.{bit, column}
 use Rattle.bits.specs.Cut.{wordCount, Framed}
@@ -20,7 +21,7 @@ outputsLeave outs p e s = every p (λ i. eqb (getD outs i 0) s ⇒ e)
 
 -- the edge set of fan-in r of gate g, where it is the signal s, at bit b: the gate's own word is h, and its fan-ins give the entry e
 abbrev pub edge : (fs es : List ℕ) (g h b e s r : ℕ) → Bool
-edge fs es g h b e s r = eqb (getD fs (6 * g + r) 0) s ⇒ (bit h b || bit (getD es (6 * g + r) 0) e)
+edge fs es g h b e s r = eqb (getD fs (gatePlaces * g + r) 0) s ⇒ (bit h b || bit (getD es (gatePlaces * g + r) 0) e)
 
 -- gate g has been passed: the sets `new` are the sets hs with the edge sets of its fan-ins taken in, at each of the first `count` words
 abbrev pub Passed : (ks fs es rows own hs new : List ℕ) (count g : ℕ) → Type 0
@@ -44,9 +45,9 @@ pub record LoadedRows (s : Session) (rows hs : List ℕ) (count live : ℕ) : Ty
   pub values : Rows (s .arity) (s .fanins) (s .loaded) rows (s .n) (s .m) count
   pub sets : LoadedSets s hs count live
 
--- word w of the compatible set of gate g of the loaded network at place 16 g + w
+-- word w of the compatible set of gate g of the loaded network at place rowWords g + w
 abbrev pub SetWords : (s : Session) (l : List ℕ) → Type 0
-SetWords s l = (g w : ℕ) → g < s .m → w < wordCount (s .n) → getD l (16 * g + w) 0 ≡ wordOf (s .n) (compatible (loadedNet s) (s .n + g)) w
+SetWords s l = (g w : ℕ) → g < s .m → w < wordCount (s .n) → getD l (rowWords * g + w) 0 ≡ wordOf (s .n) (compatible (loadedNet s) (s .n + g)) w
 
 -- the ones of w words from place at on
 unfoldable pub onesIn : (ws : List ℕ) (at w : ℕ) → ℕ

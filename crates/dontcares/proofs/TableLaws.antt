@@ -10,16 +10,18 @@ use lib.Bits.{bitOr}
 use lib.Dec.{eqb, ltb}
 use lib.ListN.{length, getD, set, replicate}
 use lib.Seq.{getD-take, getD-set-same, getD-set-other}
+use Rattle.bits.specs.Bounds.{rowWords, gatePlaces}
 use Rattle.bits.specs.Range.{_⇒_, every, any}
 use Rattle.bits.specs.Bit.{bit, tableOf, column, entryAt}
 use Rattle.bits.specs.Cut.{Framed}
 use Rattle.bits.proofs.Ranges.{and-assoc, and-true, any-ext, every-ext, bit-table, table-lt, table-ext}
 use Rattle.bits.proofs.Cuts.{live-at, every-not, table-or, table-none}
+use Rattle.network.specs.Bounds.{mostGates}
 use Rattle.network.specs.Net.{Gate, Net, arity, gate, entry, values, entryOf, occurs, excluded}
 use Rattle.network.specs.DontCares.{odc, cdc, full}
 use Rattle.network.specs.Flat.{gateAt, netOf, wordOf}
 use Rattle.network.specs.Valid.{NetOk}
-use Rattle.network.proofs.Laws.{arity-at, entry-words, entry-ext}
+use Rattle.network.proofs.FlatGates.{arity-at, entry-words, entry-ext}
 use Rattle.network.proofs.Earlier.{gate-is}
 use Rattle.entries.proofs.By.{by-rest}
 use Rattle.simulate.specs.Simulated.{wordsAt, Rows}
@@ -49,7 +51,7 @@ abbrev pub delivers : (ks fs ts rows keep : List ℕ) (g t w : ℕ) → Bool
 delivers ks fs ts rows keep g t w = any 64 (λ b. bit (getD keep w 0) b && eqb (entry (column (wordsAt rows w) b) (gateAt ks fs ts g)) t)
 
 pub word-delivers : (ks fs ts rows keep ins : List ℕ) (g k w : ℕ) → k ≡ getD ks g 0
-    → ((r : ℕ) → r < getD ks g 0 → getD ins r 0 ≡ getD (wordsAt rows w) (getD fs (6 * g + r) 0) 0)
+    → ((r : ℕ) → r < getD ks g 0 → getD ins r 0 ≡ getD (wordsAt rows w) (getD fs (gatePlaces * g + r) 0) 0)
     → tableOf (2 ^ k) (λ t. any 64 (λ b. bit (getD keep w 0) b && eqb (entryAt k ins b) t)) ≡ tableOf (2 ^ getD ks g 0) (λ t. delivers ks fs ts rows keep g t w)
 word-delivers ks fs ts rows keep ins g k w e has =
     ap (λ (i : ℕ). tableOf (2 ^ i) (λ t. any 64 (λ b. bit (getD keep w 0) b && eqb (entryAt i ins b) t))) e
@@ -71,8 +73,8 @@ module _ (ks fs ts ex outs : List ℕ) (n m p g : ℕ) (hg : g < m) where
     unfolding values netOf
     entry-now w b hw hb =
         entry-ext ks fs ts (column (wordsAt rows w) b) (values N (w * 64 + b)) g
-        (λ r l. sym (getD-take (n + m) (column (wordsAt rows w) b) (getD fs (6 * g + r) 0) false (omega (arith, ok .gate g hg .early r l)))
-        ∙ ap (λ (q : List Bool). getD q (getD fs (6 * g + r) 0) false) (sim w hw .each b hb))
+        (λ r l. sym (getD-take (n + m) (column (wordsAt rows w) b) (getD fs (gatePlaces * g + r) 0) false (omega (arith, ok .gate g hg .early r l)))
+        ∙ ap (λ (q : List Bool). getD q (getD fs (gatePlaces * g + r) 0) false) (sim w hw .each b hb))
         ∙ ap (entry (values N (w * 64 + b))) (sym (gate-is ks fs ts ex outs n m p g hg))
 
     -- those that no pattern delivers at which the test holds
@@ -115,12 +117,12 @@ module _ (ks fs ts ex outs : List ℕ) (n m p g : ℕ) (hg : g < m) where
     imp-not false false = refl
 
     pub full-is : (keep l : List ℕ) (x : ℕ) → OdcAt N l n g count
-        → ((w b : ℕ) → w < count → b < 64 → bit (getD keep w 0) b ≡ (bit live b && not (bit (getD ex w 0) b || bit (getD l (16 * g + w) 0) b)))
+        → ((w b : ℕ) → w < count → b < 64 → bit (getD keep w 0) b ≡ (bit live b && not (bit (getD ex w 0) b || bit (getD l (rowWords * g + w) 0) b)))
         → x ≡ tableOf (2 ^ getD ks g 0) (λ t. any count (delivers ks fs ts rows keep g t))
         → 2 ^ 2 ^ getD ks g 0 - 1 - x ≡ full N (n + g)
     unfolding full netOf OdcAt
     full-is keep l x at h e =
-        left-out keep free x (λ w b hw hb. h w b hw hb ∙ ap₂ (λ (c d : Bool). bit live b && not (c || d)) (sym (excluded-at w b hb)) (set-bit (odc N (n + g)) w (getD l (16 * g + w) 0) b hw hb (at w hw))
+        left-out keep free x (λ w b hw hb. h w b hw hb ∙ ap₂ (λ (c d : Bool). bit live b && not (c || d)) (sym (excluded-at w b hb)) (set-bit (odc N (n + g)) w (getD l (rowWords * g + w) 0) b hw hb (at w hw))
         ∙ inside (bit live b) (excluded N (w * 64 + b)) (odc N (n + g) (w * 64 + b))) e
         ∙ table-ext (2 ^ getD ks g 0) (λ t. not (any (2 ^ n) (λ y. free y && eqb (entryOf N (n + g) y) t))) rule
         (λ t ht. sym (every-not (2 ^ n) (λ y. free y && eqb (entryOf N (n + g) y) t))
@@ -140,15 +142,15 @@ module _ (ks fs ts ex outs : List ℕ) (n m p g : ℕ) (hg : g < m) where
 
 -- ## The tables of the gates from a on
 
-pub no-tables : (N : Net) (n a : ℕ) → Tabled N (replicate {A = ℕ} 40 0) (replicate {A = ℕ} 40 0) n a a
-no-tables N n a = record { at = λ g l h. absurd (omega arith); past = λ g h. (zeros 40 g, zeros 40 g) }
+pub no-tables : (N : Net) (n a : ℕ) → Tabled N (replicate {A = ℕ} mostGates 0) (replicate {A = ℕ} mostGates 0) n a a
+no-tables N n a = record { at = λ g l h. absurd (omega arith); past = λ g h. (zeros mostGates g, zeros mostGates g) }
   where
     zeros : (k g : ℕ) → getD (replicate {A = ℕ} k 0) g 0 ≡ 0
     zeros zero g = refl
     zeros (suc k) zero = refl
     zeros (suc k) (suc g) = zeros k g
 
-pub tables-more : (N : Net) (cdcs fulls : List ℕ) (n a g x y : ℕ) → length cdcs ≡ 40 → length fulls ≡ 40 → g < 40 → Tabled N cdcs fulls n a g
+pub tables-more : (N : Net) (cdcs fulls : List ℕ) (n a g x y : ℕ) → length cdcs ≡ mostGates → length fulls ≡ mostGates → g < mostGates → Tabled N cdcs fulls n a g
     → x ≡ cdc N (n + g) → y ≡ full N (n + g) → Tabled N (set cdcs g x) (set fulls g y) n a (g + 1)
 tables-more N cdcs fulls n a g x y lc lf h t ex ey = record {
   at = λ q l u. here q l u (ℕ-discrete q g);

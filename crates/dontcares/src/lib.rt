@@ -5,10 +5,12 @@ ghost use mathlib.Core.List.{List};
 ghost use Prim.Native.Nat.{ℕ, _+_, _*_, _%_, _^_, _<_, _≤_};
 ghost use lib.Dec.{eqb};
 ghost use lib.ListN.{length, getD};
+ghost use Rattle.bits.specs.Bounds.{rowWords};
 ghost use Rattle.bits.specs.Range.{any};
 ghost use Rattle.bits.specs.Bit.{bit, differs, tableOf, column};
 ghost use Rattle.bits.specs.Cut.{wordCount};
 ghost use Rattle.network.specs.declared.Answer.the-variants.{Done};
+ghost use Rattle.network.specs.Bounds.{mostGates, mostFanins, mostSignals, gateWords};
 ghost use Rattle.network.specs.Net.{entry};
 ghost use Rattle.network.specs.DontCares.{sdc, cdc, odc, full};
 ghost use Rattle.network.specs.Flat.{gateAt, currentNet, wordOf};
@@ -17,17 +19,29 @@ ghost use Rattle.network.specs.Valid.{GateOk};
 ghost use Rattle.simulate.specs.Simulated.{wordsAt};
 ghost use Rattle.observability.specs.Odc.{OdcAt};
 ghost use Rattle.dontcares.specs.Tabled.{Tabled, GateTabled, GatesTabled};
+use bits::ROW_WORDS;
+use network::EXCLUDED_WORDS;
+use network::FANIN_PLACES;
+use network::GATE_WORDS;
+use network::MOST_GATES;
+use network::SIGNAL_WORDS;
 use network::Session;
 
 // The live places of each word that lie neither in E nor in gate g's ODC.
-fn keep_row(excluded: &[u64; 16], odc: &[u64; 640], live: u64, count: usize, g: usize) -> [u64; 16]
-    requires { ⌜ (g < 40) × (count ≤ 16) ⌝ }
-    ensures { λ l. ⌜ ((w b : ℕ) → w < count → b < 64 → bit (getD l w 0) b ≡ (bit live b && not (bit (getD (now (excluded .entry)) w 0) b || bit (getD (now (odc .entry)) (16 * g + w) 0) b))) ⌝ }
+fn keep_row(
+    excluded: &[u64; EXCLUDED_WORDS],
+    odc: &[u64; GATE_WORDS],
+    live: u64,
+    count: usize,
+    g: usize,
+) -> [u64; ROW_WORDS]
+    requires { ⌜ (g < mostGates) × (count ≤ rowWords) ⌝ }
+    ensures { λ l. ⌜ ((w b : ℕ) → w < count → b < 64 → bit (getD l w 0) b ≡ (bit live b && not (bit (getD (now (excluded .entry)) w 0) b || bit (getD (now (odc .entry)) (rowWords * g + w) 0) b))) ⌝ }
 {
-    let mut l = [0u64; 16];
+    let mut l = [0u64; ROW_WORDS];
     let mut w = 0;
     while w < count {
-        l[w] = live & bits::invert(excluded[w] | odc[16 * g + w]);
+        l[w] = live & bits::complement(excluded[w] | odc[ROW_WORDS * g + w]);
         w += 1;
     }
     l
@@ -35,15 +49,15 @@ fn keep_row(excluded: &[u64; 16], odc: &[u64; 640], live: u64, count: usize, g: 
 
 // The entries of gate g that the places of keep deliver. Once all are, the words left add none.
 fn delivered(
-    arity: &[u8; 40],
-    fanins: &[u8; 240],
-    rows: &[u64; 800],
-    keep: &[u64; 16],
+    arity: &[u8; MOST_GATES],
+    fanins: &[u8; FANIN_PLACES],
+    rows: &[u64; SIGNAL_WORDS],
+    keep: &[u64; ROW_WORDS],
     count: usize,
     g: usize,
 ) -> u64
-    requires { ⌜ (g < 40) × (count ≤ 16) ⌝ }
-    requires { ⌜ GateOk (now arity) (now fanins) g 50 ⌝ }
+    requires { ⌜ (g < mostGates) × (count ≤ rowWords) ⌝ }
+    requires { ⌜ GateOk (now arity) (now fanins) g mostSignals ⌝ }
     ensures { λ r. ⌜ ((ts : List ℕ) → r ≡ tableOf (2 ^ getD (now (arity .entry)) g 0) (λ t. any count (λ w. any 64 (λ b. bit (getD (now (keep .entry)) w 0) b && eqb (entry (column (wordsAt (now (rows .entry)) w) b) (gateAt (now (arity .entry)) (now (fanins .entry)) ts g)) t)))) ⌝ }
 {
     let k = network::place(arity[g]);
@@ -69,26 +83,26 @@ pub struct GateTables {
 
 // The tables of gate g, from the rows of all signals and the words of its ODC.
 fn tables_at(
-    arity: &[u8; 40],
-    fanins: &[u8; 240],
-    excluded: &[u64; 16],
-    rows: &[u64; 800],
-    odc: &[u64; 640],
+    arity: &[u8; MOST_GATES],
+    fanins: &[u8; FANIN_PLACES],
+    excluded: &[u64; EXCLUDED_WORDS],
+    rows: &[u64; SIGNAL_WORDS],
+    odc: &[u64; GATE_WORDS],
     count: usize,
     live: u64,
     g: usize,
 ) -> GateTables
-    requires { ⌜ (g < 40) × (count ≤ 16) ⌝ }
-    requires { ⌜ GateOk (now arity) (now fanins) g 50 ⌝ }
+    requires { ⌜ (g < mostGates) × (count ≤ rowWords) ⌝ }
+    requires { ⌜ GateOk (now arity) (now fanins) g mostSignals ⌝ }
     ensures { λ r. ⌜ GateTabled (now (arity .entry)) (now (fanins .entry)) (now (excluded .entry)) (now (rows .entry)) (now (odc .entry)) count live g (r .cdc) (r .full) ⌝ }
 {
-    let all = [live; 16];
+    let all = [live; ROW_WORDS];
     let came = delivered(arity, fanins, rows, &all, count, g);
     let keep = keep_row(excluded, odc, live, count, g);
     let seen = delivered(arity, fanins, rows, &keep, count, g);
     let c = entries::entry_count(network::place(arity[g]));
-    let cdc = bits::rest(c, came);
-    let full = bits::rest(c, seen);
+    let cdc = bits::complement_within(c, came);
+    let full = bits::complement_within(c, seen);
     GateTables {
         cdc: cdc,
         full: full,
@@ -97,28 +111,28 @@ fn tables_at(
 
 // The CDC and the full table of each gate, zero past the last.
 pub struct AllTables {
-    pub cdc: [u64; 40],
-    pub full: [u64; 40],
+    pub cdc: [u64; MOST_GATES],
+    pub full: [u64; MOST_GATES],
 }
 
 // The tables of each gate from a to e, and zero elsewhere.
 fn tables_of(
     a: usize,
     e: usize,
-    arity: &[u8; 40],
-    fanins: &[u8; 240],
-    excluded: &[u64; 16],
-    rows: &[u64; 800],
-    odc: &[u64; 640],
+    arity: &[u8; MOST_GATES],
+    fanins: &[u8; FANIN_PLACES],
+    excluded: &[u64; EXCLUDED_WORDS],
+    rows: &[u64; SIGNAL_WORDS],
+    odc: &[u64; GATE_WORDS],
     count: usize,
     live: u64,
 ) -> AllTables
-    requires { ⌜ (a ≤ e) × (e ≤ 40) × (count ≤ 16) ⌝ }
-    requires { ⌜ ((g : ℕ) → g < e → GateOk (now arity) (now fanins) g 50) ⌝ }
+    requires { ⌜ (a ≤ e) × (e ≤ mostGates) × (count ≤ rowWords) ⌝ }
+    requires { ⌜ ((g : ℕ) → g < e → GateOk (now arity) (now fanins) g mostSignals) ⌝ }
     ensures { λ r. ⌜ GatesTabled (now (arity .entry)) (now (fanins .entry)) (now (excluded .entry)) (now (rows .entry)) (now (odc .entry)) count live a e (r .cdc) (r .full) e ⌝ }
 {
-    let mut cdc = [0u64; 40];
-    let mut full = [0u64; 40];
+    let mut cdc = [0u64; MOST_GATES];
+    let mut full = [0u64; MOST_GATES];
     let mut g = a;
     while g < e {
         let t = tables_at(arity, fanins, excluded, rows, odc, count, live, g);
@@ -133,9 +147,9 @@ fn tables_of(
 }
 
 // The words of the ODC of each gate from a to e, laid into odc, and the tables of each from a to t.
-fn sets_between(s: Session, a: usize, t: usize, e: usize, odc: &mut [u64; 640]) -> AllTables
+fn sets_between(s: Session, a: usize, t: usize, e: usize, odc: &mut [u64; GATE_WORDS]) -> AllTables
     requires { ⌜ stateFault s ≡ Done ⌝ }
-    requires { ⌜ (a ≤ t) × (t ≤ e) × (e ≤ s .m) × (length (now odc) ≡ 640) ⌝ }
+    requires { ⌜ (a ≤ t) × (t ≤ e) × (e ≤ s .m) × (length (now odc) ≡ gateWords) ⌝ }
     ensures { λ r. ⌜ ((g : ℕ) → a ≤ g → g < e → OdcAt (currentNet s) (now (odc .exit)) (s .n) g (wordCount (s .n))) × Tabled (currentNet s) (r .cdc) (r .full) (s .n) a t ⌝ }
 {
     let n = network::place(s.n);
@@ -149,7 +163,7 @@ fn sets_between(s: Session, a: usize, t: usize, e: usize, odc: &mut [u64; 640]) 
     let f = bits::frame_of(n);
     let count = f.count;
     let live = f.live;
-    let mut values = [0u64; 800];
+    let mut values = [0u64; SIGNAL_WORDS];
     simulate::rows(n, m, &arity, &fanins, &tables, count, &mut values);
     observability::odc_words(
         n,
@@ -169,13 +183,13 @@ fn sets_between(s: Session, a: usize, t: usize, e: usize, odc: &mut [u64; 640]) 
     tables_of(a, t, &arity, &fanins, &excluded, &values, odc, count, live)
 }
 
-// Rule 3 for all gates: the words of gate g's ODC stand at place 16 * g and on; spare bits are zero.
-pub fn odc_sets(s: Session) -> [u64; 640]
+// Rule 3 for all gates: the words of gate g's ODC stand at place ROW_WORDS * g and on; spare bits are zero.
+pub fn odc_sets(s: Session) -> [u64; GATE_WORDS]
     requires { ⌜ stateFault s ≡ Done ⌝ }
-    ensures { λ l. ⌜ ((g w : ℕ) → g < s .m → w < wordCount (s .n) → getD l (16 * g + w) 0 ≡ wordOf (s .n) (odc (currentNet s) (s .n + g)) w) ⌝ }
+    ensures { λ l. ⌜ ((g w : ℕ) → g < s .m → w < wordCount (s .n) → getD l (rowWords * g + w) 0 ≡ wordOf (s .n) (odc (currentNet s) (s .n + g)) w) ⌝ }
 {
     let m = network::place(s.m);
-    let mut l = [0u64; 640];
+    let mut l = [0u64; GATE_WORDS];
     sets_between(s, 0, 0, m, &mut l);
     l
 }
@@ -186,7 +200,7 @@ pub fn all_tables(s: Session) -> AllTables
     ensures { λ r. ⌜ Tabled (currentNet s) (r .cdc) (r .full) (s .n) 0 (s .m) ⌝ }
 {
     let m = network::place(s.m);
-    let mut l = [0u64; 640];
+    let mut l = [0u64; GATE_WORDS];
     sets_between(s, 0, m, m, &mut l)
 }
 
@@ -197,7 +211,7 @@ pub fn gate_tables(s: Session, g: usize) -> GateTables
     ensures { λ r. ⌜ (r .cdc ≡ cdc (currentNet s) (s .n + g)) × (r .full ≡ full (currentNet s) (s .n + g)) ⌝ }
 {
     let e = g + 1;
-    let mut l = [0u64; 640];
+    let mut l = [0u64; GATE_WORDS];
     let r = sets_between(s, g, e, e, &mut l);
     let cdc = r.cdc;
     let full = r.full;
@@ -209,11 +223,11 @@ pub fn gate_tables(s: Session, g: usize) -> GateTables
 
 // Rule 1 for a table of k fan-ins: its entries, then their complement.
 fn sdc_of(k: usize, table: u64) -> u64
-    requires { ⌜ (k ≤ 4) × (table < 2 ^ 2 ^ k) ⌝ }
+    requires { ⌜ (k ≤ mostFanins) × (table < 2 ^ 2 ^ k) ⌝ }
     ensures { λ r. ⌜ r ≡ tableOf (2 ^ (k + 1)) (λ e. differs (bit e k) (bit table (e % 2 ^ k))) ⌝ }
 {
     let c = entries::entry_count(k);
-    let other = bits::rest(c, table);
+    let other = bits::complement_within(c, table);
     table + (other << c)
 }
 

@@ -5,6 +5,7 @@ use mathlib.Core.List.{List}
 use Prim.Native.Nat.{ℕ, _+_, _*_, _^_, _≤_, _<_}
 use lib.Bits.{bitXor}
 use lib.ListN.{getD}
+use Rattle.bits.specs.Bounds.{gatePlaces, smallFanins}
 use Rattle.bits.specs.Bit.{bit, choose, tableOf}
 use Rattle.network.specs.Compatible.{constant, turns}
 
@@ -14,13 +15,13 @@ edgeTable k table r = tableOf (2 ^ k) (λ t. bit (turns k table t k) r)
 
 -- the edge tables of the first m gates, gate g's at places 6 g and on
 abbrev pub Edged : (arity tables edges : List ℕ) (m : ℕ) → Type 0
-Edged ks ts es m = (g : ℕ) → g < m → (r : ℕ) → r < getD ks g 0 → getD es (6 * g + r) 0 ≡ edgeTable (getD ks g 0) (getD ts g 0) r
+Edged ks ts es m = (g : ℕ) → g < m → (r : ℕ) → r < getD ks g 0 → getD es (gatePlaces * g + r) 0 ≡ edgeTable (getD ks g 0) (getD ts g 0) r
 
 -- ## All entries at once: word f is of the set f of fan-ins, and has a bit for each entry
 
 -- the first n words: where the table, of a gate of any number k of fan-ins up to four, is constant over all values of the fan-ins in f
 abbrev pub Constants : (table : ℕ) (words : List ℕ) (n : ℕ) → Type 0
-Constants table l n = (k f t : ℕ) → k ≤ 4 → f < n → f < 2 ^ k → t < 2 ^ k → bit (getD l f 0) t ≡ constant k table f t
+Constants table l n = (k f t : ℕ) → k ≤ smallFanins → f < n → f < 2 ^ k → t < 2 ^ k → bit (getD l f 0) t ≡ constant k table f t
 
 -- from the words l₀ of the sets below 2 ^ r, those of the first n of these sets with fan-in r:
 -- an entry is set where it was set with either value of r, and is set in like

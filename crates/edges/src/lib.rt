@@ -1,11 +1,21 @@
 // Rule 6: the edge tables. Entry t of the edge table of fan-in r is set where the gate frees fan-in r at entry t.
 // All entries of a gate at once: a word has a bit for each, and word f is of the set f of fan-ins.
 ghost use mathlib.Core.Path.{_≡_};
-ghost use Prim.Native.Nat.{ℕ, _+_, _^_, _<_, _≤_};
+ghost use Prim.Native.Nat.{ℕ, _+_, _/_, _^_, _<_, _≤_};
 ghost use lib.Bits.{bitXor};
 ghost use lib.ListN.{length, getD};
+ghost use Rattle.bits.specs.Bounds.{gatePlaces, smallFanins, smallWords};
 ghost use Rattle.bits.specs.Bit.{bit};
+ghost use Rattle.network.specs.Bounds.{mostGates, faninPlaces};
 ghost use Rattle.edges.specs.Edges.{edgeTable, Edged, Constants, Doubled, Halved};
+use bits::GATE_PLACES;
+use bits::SMALL_FANINS;
+use bits::SMALL_WORDS;
+use network::FANIN_PLACES;
+use network::MOST_GATES;
+
+// The number of a small gate's last fan-in.
+const LAST_FANIN: usize = SMALL_FANINS - 1;
 
 // At each entry: the bit of x at the entry with fan-in r turned.
 fn turned(x: u64, r: usize) -> u64
@@ -17,10 +27,10 @@ fn turned(x: u64, r: usize) -> u64
 }
 
 // From the words of the sets of fan-ins below r, those of the same sets with r.
-fn double(words: &mut [u64; 16], r: usize, like: u64)
-    requires { ⌜ r < 4 ⌝ }
-    requires { ⌜ length (now words) ≡ 16 ⌝ }
-    ensures { λ _. ⌜ (length (now (words .exit)) ≡ 16) × Doubled (now (words .entry)) (now (words .exit)) r like (2 ^ r) ⌝ }
+fn double(words: &mut [u64; SMALL_WORDS], r: usize, like: u64)
+    requires { ⌜ r < smallFanins ⌝ }
+    requires { ⌜ length (now words) ≡ smallWords ⌝ }
+    ensures { λ _. ⌜ (length (now (words .exit)) ≡ smallWords) × Doubled (now (words .entry)) (now (words .exit)) r like (2 ^ r) ⌝ }
 {
     let size: usize = 1 << r;
     let mut f = 0;
@@ -33,14 +43,14 @@ fn double(words: &mut [u64; 16], r: usize, like: u64)
 
 // For each set of fan-ins, the entries at which the table is constant over all their values, the rest held.
 // All four fan-ins are counted: a gate that has fewer finds its sets first.
-fn constants(table: u64) -> [u64; 16]
-    ensures { λ l. ⌜ Constants table l 16 ⌝ }
+fn constants(table: u64) -> [u64; SMALL_WORDS]
+    ensures { λ l. ⌜ Constants table l smallWords ⌝ }
 {
-    let mut words = [0u64; 16];
+    let mut words = [0u64; SMALL_WORDS];
     words[0] = 0xffff_ffff_ffff_ffff;
     let mut r = 0;
-    while r < 4 {
-        let like = bits::invert(table ^ turned(table, r));
+    while r < SMALL_FANINS {
+        let like = bits::complement(table ^ turned(table, r));
         double(&mut words, r, like);
         r += 1;
     }
@@ -48,10 +58,10 @@ fn constants(table: u64) -> [u64; 16]
 }
 
 // Of each two words, at each entry: the second where free has a 1, the first where it has a 0.
-fn halve(words: &mut [u64; 16], size: usize, free: u64)
-    requires { ⌜ size ≤ 8 ⌝ }
-    requires { ⌜ length (now words) ≡ 16 ⌝ }
-    ensures { λ _. ⌜ (length (now (words .exit)) ≡ 16) × Halved (now (words .entry)) (now (words .exit)) free size ⌝ }
+fn halve(words: &mut [u64; SMALL_WORDS], size: usize, free: u64)
+    requires { ⌜ size ≤ smallWords / 2 ⌝ }
+    requires { ⌜ length (now words) ≡ smallWords ⌝ }
+    ensures { λ _. ⌜ (length (now (words .exit)) ≡ smallWords) × Halved (now (words .entry)) (now (words .exit)) free size ⌝ }
 {
     let mut h = 0;
     while h < size {
@@ -64,33 +74,37 @@ fn halve(words: &mut [u64; 16], size: usize, free: u64)
 
 // The edge tables of a gate, at place at and on. At the turn of fan-in r, word h is of the fan-ins already free and of those of h, counted from r.
 // Four turns are always taken, which is quicker than to stop after k: what stands past the k tables is not read.
-fn gate_edges(k: usize, table: u64, at: usize, edges: &mut [u64; 240])
-    requires { ⌜ (k ≤ 4) × (at + 6 ≤ 240) ⌝ }
-    requires { ⌜ length (now edges) ≡ 240 ⌝ }
-    ensures { λ _. ⌜ (length (now (edges .exit)) ≡ 240) × ((r : ℕ) → r < k → getD (now (edges .exit)) (at + r) 0 ≡ edgeTable k table r) × ((q : ℕ) → q < at → getD (now (edges .exit)) q 0 ≡ getD (now (edges .entry)) q 0) ⌝ }
+fn gate_edges(k: usize, table: u64, at: usize, edges: &mut [u64; FANIN_PLACES])
+    requires { ⌜ (k ≤ smallFanins) × (at + gatePlaces ≤ faninPlaces) ⌝ }
+    requires { ⌜ length (now edges) ≡ faninPlaces ⌝ }
+    ensures { λ _. ⌜ (length (now (edges .exit)) ≡ faninPlaces) × ((r : ℕ) → r < k → getD (now (edges .exit)) (at + r) 0 ≡ edgeTable k table r) × ((q : ℕ) → q < at → getD (now (edges .exit)) q 0 ≡ getD (now (edges .entry)) q 0) ⌝ }
 {
     let entries = bits::mask(1 << k);
     let mut words = constants(table);
     let mut r: usize = 0;
-    while r < 4 {
+    while r < SMALL_FANINS {
         let free = words[1];
         edges[at + r] = free & entries;
-        halve(&mut words, 1 << (3 - r), free);
+        halve(&mut words, 1 << (LAST_FANIN - r), free);
         r += 1;
     }
 }
 
 // The edge tables of the first m gates, six places a gate.
-pub fn edge_tables(m: usize, arity: &[u8; 40], tables: &[u64; 40]) -> [u64; 240]
-    requires { ⌜ m ≤ 40 ⌝ }
-    requires { ⌜ ((g : ℕ) → g < m → getD (now arity) g 0 ≤ 4) ⌝ }
+pub fn edge_tables(
+    m: usize,
+    arity: &[u8; MOST_GATES],
+    tables: &[u64; MOST_GATES],
+) -> [u64; FANIN_PLACES]
+    requires { ⌜ m ≤ mostGates ⌝ }
+    requires { ⌜ ((g : ℕ) → g < m → getD (now arity) g 0 ≤ smallFanins) ⌝ }
     ensures { λ l. ⌜ Edged (now (arity .entry)) (now (tables .entry)) l m ⌝ }
 {
-    let mut edges = [0u64; 240];
+    let mut edges = [0u64; FANIN_PLACES];
     let mut g = 0;
     while g < m {
         let k = network::place(arity[g]);
-        gate_edges(k, tables[g], 6 * g, &mut edges);
+        gate_edges(k, tables[g], GATE_PLACES * g, &mut edges);
         g += 1;
     }
     edges

@@ -16,6 +16,7 @@ use Rattle.network.specs.declared.TablesAnswer.the-variants as tables
 use Rattle.network.specs.declared.Refusal.the-variants.{Harm}
 use Rattle.network.specs.declared.Answer.{Answer}
 use Rattle.network.specs.declared.Answer.the-variants.{Done, Refused}
+use Rattle.network.specs.Bounds.{mostGates}
 use Rattle.network.specs.Net.{Net, isGate, patterns, Replacement}
 use Rattle.network.specs.Compatible.{compatibleCount, openTable}
 use Rattle.network.specs.Flat.{loadedNet}
@@ -90,10 +91,10 @@ module _ (s : Session) (v : stateTest s ≡ Done) where
   counts-are : (g : ℕ) → g < s .m → getD (countsOf s .counts) g 0 ≡ compatibleCount (loadedNet s) (s .n + g)
   unfolding countsOf
   counts-are g l =
-      let most = count-e 40 (s .m) (valid-e s (state-e s v) .gates) in
+      let most = count-e mostGates (s .m) (valid-e s (state-e s v) .gates) in
       let at : ℕ → ℕ = λ g. cond (ltb g (s .m)) (compatibleCount (loadedNet s) (s .n + g)) 0 in
       ap (λ (a : Answer). getD (countsFor a s .counts) g 0) v
-      ∙ places-at 0 40 at g (omega arith)
+      ∙ places-at 0 mostGates at g (omega arith)
       ∙ ap (λ b. cond b (compatibleCount (loadedNet s) (s .n + g)) 0) (lt-ltb g (s .m) l)
 
 -- the verdict of a lone replacement is the search for harm
@@ -144,7 +145,7 @@ module _ (s : Session) (fresh : Fresh s) (rs : List Replacement) where
         arities = shape .arities;
         slots = shape .slots;
         loads = shape .loads;
-        currents = length-places 40 (λ g. lastAccepted (loadedNet s) rs (s .n + g) (getD (s .loaded) g 0));
+        currents = length-places mostGates (λ g. lastAccepted (loadedNet s) rs (s .n + g) (getD (s .loaded) g 0));
         opens = shape .opens;
         outs = shape .outs;
         wide = shape .wide;

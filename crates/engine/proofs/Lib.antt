@@ -1,3 +1,3 @@
-pub mod Laws
+pub mod ByAnswer
 pub mod Outcomes
 pub mod Demands

@@ -8,6 +8,7 @@ use lib.Dec.{leb, ltb, eqb}
 use lib.ListN.{length, getD, take, drop}
 use Rattle.bits.specs.declared.Found.{Found}
 use Rattle.bits.specs.declared.Found.the-variants.{At, Nothing}
+use Rattle.bits.specs.Bounds.{mostInputs}
 use Rattle.bits.specs.Range.{upFrom, smallest}
 use Rattle.network.specs.declared.Session.{Session}
 use Rattle.network.specs.declared.Loaded.{Loaded}
@@ -15,6 +16,7 @@ use Rattle.network.specs.declared.Refusal.{Refusal}
 use Rattle.network.specs.declared.Refusal.the-variants.{Truncated, UnexpectedMark, OutOfBounds, FaninNotEarlier, FaninRepeated, BitPastEnd, NotASignal, TrailingBytes, BufferTooShort, InvalidState, NotAGate, TableTooWide, ClosedEntry, Harm}
 use Rattle.network.specs.declared.Answer.{Answer}
 use Rattle.network.specs.declared.Answer.the-variants.{Done, Refused}
+use Rattle.network.specs.Bounds.{mostGates, mostOutputs, mostFanins, excludedWords}
 use Rattle.network.specs.Net.{Net, isGate, entries, patternOrder, Replacement}
 use Rattle.network.specs.DontCares.{harms}
 use Rattle.network.specs.Tests.{refuseIf, orElse, first, lengthTest, mark, markTest, countTest, member, faninTest, faninsTest, widthTest, excludedTest, outputTest}
@@ -145,7 +147,7 @@ width-among bits x = if-among file (not (ltb x (2 ^ bits))) BitPastEnd refl
 
 excluded-among : (n : ℕ) (words : List ℕ) → Among file (excludedTest n words)
 unfolding excludedTest
-excluded-among n words = map-among file (λ w. widthTest (2 ^ n - 64 * w) (getD words w 0)) (λ w. width-among (2 ^ n - 64 * w) (getD words w 0)) (upFrom 0 16)
+excluded-among n words = map-among file (λ w. widthTest (2 ^ n - 64 * w) (getD words w 0)) (λ w. width-among (2 ^ n - 64 * w) (getD words w 0)) (upFrom 0 excludedWords)
 
 output-among : (signals x : ℕ) → Among file (outputTest signals x)
 output-among signals x = if-among file (not (ltb x signals)) NotASignal refl
@@ -175,7 +177,7 @@ gates-among (suc c) g t rest =
       mark-among 0x4E47 rest,
       (
         length-among 3 rest,
-        (count-among 4 k, (length-among (k + 2) (drop 3 rest), (fanins-among (t .n + g) (faninsIn rest), (width-among (2 ^ k) (tableIn rest), tt)))),
+        (count-among mostFanins k, (length-among (k + 2) (drop 3 rest), (fanins-among (t .n + g) (faninsIn rest), (width-among (2 ^ k) (tableIn rest), tt)))),
       ),
     ))
     (gates-among c (g + 1) (withGate t g k (faninsIn rest) (tableIn rest)) (drop 2 (afterFanins rest)))
@@ -201,5 +203,5 @@ read-among bytes =
     let m = getD bytes 3 0 in
     let p = getD bytes 4 0 in
     onward-among (headerRecord bytes) _
-    (first-among file (headerTests bytes) (mark-among 0x4E49 bytes, (length-among 5 bytes, (count-among 10 n, (count-among 40 m, (count-among 8 p, tt))))))
+    (first-among file (headerTests bytes) (mark-among 0x4E49 bytes, (length-among 5 bytes, (count-among mostInputs n, (count-among mostGates m, (count-among mostOutputs p, tt))))))
     (body-among (started n m p) (drop 5 bytes))

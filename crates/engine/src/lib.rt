@@ -10,6 +10,7 @@ use network::Answer;
 use network::Counts;
 use network::Exchanged;
 use network::Loaded;
+use network::MOST_GATES;
 use network::Session;
 use network::TablesAnswer;
 use network::WriteAnswer;
@@ -87,14 +88,14 @@ pub fn counts(s: Session) -> Counts
     if let Answer::Refused(_) = v {
         return Counts {
             answer: v,
-            counts: [0u64; 40],
+            counts: [0u64; MOST_GATES],
         };
     }
     answers::counts(s)
 }
 
 // The session of a network that was read, with these open tables.
-fn holding(s: Session, opens: [u64; 40]) -> Loaded
+fn holding(s: Session, opens: [u64; MOST_GATES]) -> Loaded
     ensures { λ r. ⌜ r ≡ loadDone (withOpenTables s opens) ⌝ }
 {
     let mut u = s;
@@ -105,7 +106,7 @@ fn holding(s: Session, opens: [u64; 40]) -> Loaded
     }
 }
 
-// The same with the open tables of its gates.
+// The session of a network that was read, with the open tables of its gates.
 fn with_open_tables(s: Session) -> Loaded
     requires { ⌜ stateFault s ≡ Done ⌝ }
     ensures { λ r. ⌜ r ≡ loadDone (opened s) ⌝ }
@@ -118,7 +119,7 @@ fn with_open_tables(s: Session) -> Loaded
 pub fn load(bytes: &[u8]) -> Loaded
     ensures { λ r. ⌜ r ≡ loadOf (now (bytes .entry)) ⌝ }
 {
-    let l = netfile::read(bytes);
+    let l = netread::read(bytes);
     let a = l.answer;
     if let Answer::Refused(r) = a {
         return network::refused(r);
@@ -130,7 +131,7 @@ pub fn load(bytes: &[u8]) -> Loaded
 // A load, and the number of patterns in the compatible set of each gate that it gives.
 pub struct Counted {
     pub loaded: Loaded,
-    pub counts: [u64; 40],
+    pub counts: [u64; MOST_GATES],
 }
 
 // As `with_open_tables`, with the counts: both from one computation of the compatible sets.
@@ -151,10 +152,10 @@ fn with_counts(s: Session) -> Counted
 pub fn load_counted(bytes: &[u8]) -> Counted
     ensures { λ r. ⌜ r ≡ countedOf (now (bytes .entry)) ⌝ }
 {
-    let l = netfile::read(bytes);
+    let l = netread::read(bytes);
     let a = l.answer;
     if let Answer::Refused(r) = a {
-        let none = [0u64; 40];
+        let none = [0u64; MOST_GATES];
         return Counted {
             loaded: network::refused(r),
             counts: none,

@@ -11,7 +11,7 @@ pub fn load(file: &[u8], session: &mut [u64]) -> u64
 {
     let l = engine::load(file);
     let tested = l.answer;
-    let a = boundary::room(tested, session.len(), 427);
+    let a = boundary::room(tested, session.len(), packed::SESSION_WORDS);
     if let Answer::Refused(r) = a {
         return network::number_of(r);
     }

@@ -20,6 +20,7 @@ use Rattle.network.specs.declared.TablesAnswer.the-variants as tables
 use Rattle.network.specs.declared.Refusal.{Refusal}
 use Rattle.network.specs.declared.Answer.{Answer}
 use Rattle.network.specs.declared.Answer.the-variants.{Done, Refused}
+use Rattle.network.specs.Bounds.{mostGates}
 use Rattle.network.specs.Compatible.{compatibleCount}
 use Rattle.network.specs.Flat.{loadedNet}
 use Rattle.network.specs.Refusals.{numberOf}
@@ -60,20 +61,20 @@ module _ (s : Session) (gate : ℕ) (out : List ℕ) (valid : stateTest s ≡ Do
       go Done q = cc
       go (Refused f) q = cc
 
--- ## The number of patterns in H of each gate, off an array of 40
+-- ## The number of patterns in H of each gate, off the array of all gates
 
 module _ (s : Session) {x : Counts} (e : x ≡ countsOf s) (valid : stateTest s ≡ Done) where
   abbrev counted : ℕ → ℕ
   counted g = compatibleCount (loadedNet s) (s .n + g)
 
-  all : x .counts ≡ places 40 (λ g. cond (ltb g (s .m)) (counted g) 0)
+  all : x .counts ≡ places mostGates (λ g. cond (ltb g (s .m)) (counted g) 0)
   all = ap (λ (y : Counts). y .counts) (e ∙ sym (counts-done s valid))
 
-  few : s .m ≤ 40
-  few = count-e 40 (s .m) (valid-e s (state-e s valid) .gates) .1
+  few : s .m ≤ mostGates
+  few = count-e mostGates (s .m) (valid-e s (state-e s valid) .gates) .1
 
   pub counts-long : s .m ≤ length (x .counts)
-  counts-long = let n = ap length all ∙ length-places 40 (λ g. cond (ltb g (s .m)) (counted g) 0) in let m = few in omega arith
+  counts-long = let n = ap length all ∙ length-places mostGates (λ g. cond (ltb g (s .m)) (counted g) 0) in let m = few in omega arith
 
   pub counts-part : take (s .m - 0) (x .counts) ≡ places (s .m) counted
   counts-part =
@@ -81,7 +82,7 @@ module _ (s : Session) {x : Counts} (e : x ≡ countsOf s) (valid : stateTest s 
       let m = few in
       rw q (part-places (x .counts) 0 (s .m) (let n = counts-long in omega arith)
       ∙ places-ext (s .m) (λ g. getD (x .counts) (0 + g) 0) counted
-      (λ g h. rw (zero-add, all, places-at 0 40 (λ i. cond (ltb i (s .m)) (counted i) 0) g (omega arith), lt-ltb g (s .m) h)))
+      (λ g h. rw (zero-add, all, places-at 0 mostGates (λ i. cond (ltb i (s .m)) (counted i) 0) g (omega arith), lt-ltb g (s .m) h)))
 
   pub counts-few : (out : List ℕ) → s .m ≤ length out → length (take (s .m - 0) (x .counts)) ≤ length out
   counts-few out r = let n = ap length counts-part ∙ length-places (s .m) counted in omega arith

@@ -11,7 +11,7 @@ pub fn tables(session: &[u64], gate: usize, out: &mut [u64]) -> u64
 {
     let l = packed::unpack(session);
     let tested = l.answer;
-    let a = boundary::room(tested, out.len(), 4);
+    let a = boundary::room(tested, out.len(), boundary::TABLES_ROOM);
     if let Answer::Refused(r) = a {
         return network::number_of(r);
     }
@@ -33,7 +33,7 @@ pub fn all_tables(session: &[u64], out: &mut [u64]) -> u64
     let tested = l.answer;
     let s = l.session;
     let m = s.m as usize;
-    let a = boundary::room(tested, out.len(), 4 * m);
+    let a = boundary::room(tested, out.len(), boundary::TABLES_ROOM * m);
     if let Answer::Refused(r) = a {
         return network::number_of(r);
     }

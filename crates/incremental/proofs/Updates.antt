@@ -12,19 +12,21 @@ use lib.ListN.{length, getD, take, set, length-append}
 use lib.Pow.{pow-lt}
 use lib.Seq.{getD-take, getD-at, getD-set-same, getD-set-other, set-getD, take-take, take-length, take-append-le}
 use borrow.Author.Tests.{eq-eqb, ne-eqb}
+use Rattle.bits.specs.Bounds.{gatePlaces}
 use Rattle.bits.specs.Range.{places}
 use Rattle.bits.specs.Bit.{bit, differs, column}
 use Rattle.bits.proofs.BitLaws.{bit-and, bit-or, bit-zero, bit-above, power-own}
 use Rattle.bits.proofs.Logic.{clash}
 use Rattle.bits.proofs.Ranges.{or-r, length-places, places-ext, column-at}
+use Rattle.network.specs.Bounds.{mostSignals, signalWords}
 use Rattle.network.specs.Net.{Gate, entry, run}
 use Rattle.network.specs.DontCares.{runInverted}
 use Rattle.network.specs.Flat.{faninsAt, gateAt, gatesOf}
 use Rattle.network.specs.Valid.{GateOk}
-use Rattle.network.proofs.Laws.{run-snoc, length-run, entry-at, entry-lt, entry-take, entry-ext, gates-suc, length-gates, table-at}
+use Rattle.network.proofs.FlatGates.{run-snoc, length-run, entry-at, entry-lt, entry-take, entry-ext, gates-suc, length-gates, table-at}
 use Rattle.simulate.specs.Simulated.{wordsAt, Rows}
 use Rattle.incremental.specs.Updated.{Masked, Updated}
-use Rattle.simulate.proofs.Laws.{gate-step}
+use Rattle.simulate.proofs.SimulationSteps.{gate-step}
 use Rattle.simulate.proofs.RowLaws.{words-long}
 
 -- ## Runs
@@ -140,19 +142,19 @@ mask-step F mask v r so-far e q h = bit-or mask v (F q) ∙ go (ℕ-discrete q r
     go (no n) = rw (so-far q (omega arith))
 
 -- one gate more of the fan-in sets
-pub masked-step : (ks fs l : List ℕ) (g v : ℕ) → g < length l → Masked ks fs l g → ((r : ℕ) → r < getD ks g 0 → bit v (getD fs (6 * g + r) 0) ≡ true)
+pub masked-step : (ks fs l : List ℕ) (g v : ℕ) → g < length l → Masked ks fs l g → ((r : ℕ) → r < getD ks g 0 → bit v (getD fs (gatePlaces * g + r) 0) ≡ true)
     → Masked ks fs (set l g v) (g + 1)
 masked-step ks fs l g v h so-far here q hq r hr = go (ℕ-discrete q g)
   where
-    go : Dec (q ≡ g) → bit (getD (set l g v) q 0) (getD fs (6 * q + r) 0) ≡ true
-    go (yes e) = ap (λ (x : ℕ). bit (getD (set l g v) x 0) (getD fs (6 * x + r) 0)) e ∙ ap (λ (x : ℕ). bit x (getD fs (6 * g + r) 0)) (getD-set-same l g v 0 h) ∙ here r (rw e at hr)
-    go (no n) = ap (λ (x : ℕ). bit x (getD fs (6 * q + r) 0)) (getD-set-other l g q v 0 n) ∙ so-far q (omega arith) r hr
+    go : Dec (q ≡ g) → bit (getD (set l g v) q 0) (getD fs (gatePlaces * q + r) 0) ≡ true
+    go (yes e) = ap (λ (x : ℕ). bit (getD (set l g v) x 0) (getD fs (gatePlaces * x + r) 0)) e ∙ ap (λ (x : ℕ). bit x (getD fs (gatePlaces * g + r) 0)) (getD-set-same l g v 0 h) ∙ here r (rw e at hr)
+    go (no n) = ap (λ (x : ℕ). bit x (getD fs (gatePlaces * q + r) 0)) (getD-set-other l g q v 0 n) ∙ so-far q (omega arith) r hr
 
 -- ## One gate more of the rows
 
 module _ (ks fs us ts old : List ℕ) (n m count : ℕ) (sim : Rows ks fs us old n m count) where
   -- nothing is done yet: the tables are the same up to here
-  pub update-first : (from : ℕ) → from ≤ m → length old ≡ 800 → ((g : ℕ) → g < from → getD us g 0 ≡ getD ts g 0) → Updated ks fs ts old old n count from 0
+  pub update-first : (from : ℕ) → from ≤ m → length old ≡ signalWords → ((g : ℕ) → g < from → getD us g 0 ≡ getD ts g 0) → Updated ks fs ts old old n count from 0
   unfolding gatesOf gateAt
   update-first from h long same = record {
     long = long;
@@ -167,7 +169,7 @@ module _ (ks fs us ts old : List ℕ) (n m count : ℕ) (sim : Rows ks fs us old
       first-gates : gatesOf ks fs us from ≡ gatesOf ks fs ts from
       first-gates = places-ext from (gateAt ks fs us) (gateAt ks fs ts) (λ g l. ap (λ (t : ℕ). record { fanins = faninsAt ks fs g; table = t }) (same g l))
 
-  module _ (rows : List ℕ) (h changed : ℕ) (hm : h < m) (fits : n + h < 50) (ok : GateOk ks fs h (n + h)) (so-far : Updated ks fs ts old rows n count h changed) where
+  module _ (rows : List ℕ) (h changed : ℕ) (hm : h < m) (fits : n + h < mostSignals) (ok : GateOk ks fs h (n + h)) (so-far : Updated ks fs ts old rows n count h changed) where
     -- the gate's words are there
     there : ((w : ℕ) → w < count → (b : ℕ) → b < 64 → bit (getD (wordsAt rows w) (n + h) 0) b ≡ bit (getD ts h 0) (entry (column (wordsAt rows w) b) (gateAt ks fs ts h)))
         → Updated ks fs ts old rows n count (h + 1) changed
@@ -179,7 +181,7 @@ module _ (ks fs us ts old : List ℕ) (n m count : ℕ) (sim : Rows ks fs us old
     }
 
     -- neither the table nor a fan-in changed
-    pub update-skip : (mask : ℕ) → ((r : ℕ) → r < getD ks h 0 → bit mask (getD fs (6 * h + r) 0) ≡ true) → bitAnd mask changed ≡ 0 → getD ts h 0 ≡ getD us h 0
+    pub update-skip : (mask : ℕ) → ((r : ℕ) → r < getD ks h 0 → bit mask (getD fs (gatePlaces * h + r) 0) ≡ true) → bitAnd mask changed ≡ 0 → getD ts h 0 ≡ getD us h 0
         → Updated ks fs ts old rows n count (h + 1) changed
     update-skip mask has none table = there same
       where
@@ -193,7 +195,7 @@ module _ (ks fs us ts old : List ℕ) (n m count : ℕ) (sim : Rows ks fs us old
         same w hw b hb =
             ap (λ (v : ℕ). bit v b) (so-far .kept w (n + h) hw (so-far .later (n + h) (omega arith)))
             ∙ gate-value ks fs us n (w * 64 + b) (wordsAt old w) m b (sim w hw .each b hb) h hm ok
-            ∙ ap (bit (getD us h 0)) (entry-ext ks fs us (column (wordsAt old w) b) (column (wordsAt rows w) b) h (λ r l. at w b hw (getD fs (6 * h + r) 0) (clear (getD fs (6 * h + r) 0) (has r l))))
+            ∙ ap (bit (getD us h 0)) (entry-ext ks fs us (column (wordsAt old w) b) (column (wordsAt rows w) b) h (λ r l. at w b hw (getD fs (gatePlaces * h + r) 0) (clear (getD fs (gatePlaces * h + r) 0) (has r l))))
             ∙ ap₂ bit (sym table) (entry-at ks fs us (column (wordsAt rows w) b) h ∙ sym (entry-at ks fs ts (column (wordsAt rows w) b) h))
 
     module _ (row : ℕ → ℕ) (valued : (w b : ℕ) → w < count → b < 64 → bit (row w) b ≡ bit (getD ts h 0) (entry (column (wordsAt rows w) b) (gateAt ks fs ts h))) where
@@ -202,7 +204,7 @@ module _ (ks fs us ts old : List ℕ) (n m count : ℕ) (sim : Rows ks fs us old
       update-same same = there (λ w hw b hb. ap (λ (v : ℕ). bit v b) (sym (same w hw)) ∙ valued w b hw hb)
 
       -- simulated again, with other words
-      pub update-stored : (new : List ℕ) → length new ≡ 800 → ((w : ℕ) → w < count → wordsAt new w ≡ set (wordsAt rows w) (n + h) (row w))
+      pub update-stored : (new : List ℕ) → length new ≡ signalWords → ((w : ℕ) → w < count → wordsAt new w ≡ set (wordsAt rows w) (n + h) (row w))
           → Updated ks fs ts old new n count (h + 1) (bitOr changed (2 ^ (n + h)))
       update-stored new long put = record {
         long = long;

@@ -4,16 +4,18 @@ use mathlib.Core.Bool.{true, false}
 use mathlib.Core.List.{List}
 use Prim.Native.Nat.{ℕ, _+_, _*_, _≤_, _<_}
 use lib.ListN.{length, getD}
+use Rattle.bits.specs.Bounds.{gatePlaces}
 use Rattle.bits.specs.Bit.{bit}
+use Rattle.network.specs.Bounds.{signalWords}
 use Rattle.simulate.specs.Simulated.{wordsAt, Rows}
 
 -- the mask of each of the first m gates has a one at each of its fan-ins
 abbrev pub Masked : (ks fs masks : List ℕ) (m : ℕ) → Type 0
-Masked ks fs masks m = (g : ℕ) → g < m → (r : ℕ) → r < getD ks g 0 → bit (getD masks g 0) (getD fs (6 * g + r) 0) ≡ true
+Masked ks fs masks m = (g : ℕ) → g < m → (r : ℕ) → r < getD ks g 0 → bit (getD masks g 0) (getD fs (gatePlaces * g + r) 0) ≡ true
 
 -- the first h gates are done: `rows` has their values under the tables ts, and all signals but those of `changed` have the words of `old`
 pub record Updated (ks fs ts old rows : List ℕ) (n count h changed : ℕ) : Type 0 where
-  pub long : length rows ≡ 800
+  pub long : length rows ≡ signalWords
   pub done : Rows ks fs ts rows n h count
   pub kept : (w s : ℕ) → w < count → bit changed s ≡ false → getD (wordsAt rows w) s 0 ≡ getD (wordsAt old w) s 0
   pub later : (s : ℕ) → n + h ≤ s → bit changed s ≡ false

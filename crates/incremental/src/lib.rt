@@ -3,19 +3,25 @@ ghost use mathlib.Core.Path.{_≡_};
 ghost use mathlib.Core.Bool.{true};
 ghost use Prim.Native.Nat.{ℕ, _+_, _*_, _<_, _≤_};
 ghost use lib.ListN.{length, getD, take};
+ghost use Rattle.bits.specs.Bounds.{mostInputs, rowWords, gatePlaces};
 ghost use Rattle.bits.specs.Range.{places};
 ghost use Rattle.bits.specs.Bit.{bit, column};
+ghost use Rattle.network.specs.Bounds.{mostGates, mostSignals, signalWords};
 ghost use Rattle.network.specs.DontCares.{runInverted};
 ghost use Rattle.network.specs.Flat.{gatesOf};
 ghost use Rattle.network.specs.Valid.{GateOk, NetOk};
 ghost use Rattle.simulate.specs.Simulated.{wordsAt, Rows};
 ghost use Rattle.incremental.specs.Updated.{Masked, Stepped};
+use bits::ROW_WORDS;
+use network::FANIN_PLACES;
+use network::MOST_GATES;
+use network::SIGNAL_WORDS;
 
 // The fan-ins of gate g as a set of signals.
-fn fanin_mask(arity: &[u8; 40], fanins: &[u8; 240], g: usize) -> u64
-    requires { ⌜ g < 40 ⌝ }
-    requires { ⌜ GateOk (now arity) (now fanins) g 50 ⌝ }
-    ensures { λ l. ⌜ ((r : ℕ) → r < getD (now (arity .entry)) g 0 → bit l (getD (now (fanins .entry)) (6 * g + r) 0) ≡ true) ⌝ }
+fn fanin_mask(arity: &[u8; MOST_GATES], fanins: &[u8; FANIN_PLACES], g: usize) -> u64
+    requires { ⌜ g < mostGates ⌝ }
+    requires { ⌜ GateOk (now arity) (now fanins) g mostSignals ⌝ }
+    ensures { λ l. ⌜ ((r : ℕ) → r < getD (now (arity .entry)) g 0 → bit l (getD (now (fanins .entry)) (gatePlaces * g + r) 0) ≡ true) ⌝ }
 {
     let k = network::place(arity[g]);
     let mut mask: u64 = 0;
@@ -29,11 +35,16 @@ fn fanin_mask(arity: &[u8; 40], fanins: &[u8; 240], g: usize) -> u64
 }
 
 // The fan-ins of each gate as a set of signals.
-pub fn fanin_masks(n: usize, m: usize, arity: &[u8; 40], fanins: &[u8; 240]) -> [u64; 40]
+pub fn fanin_masks(
+    n: usize,
+    m: usize,
+    arity: &[u8; MOST_GATES],
+    fanins: &[u8; FANIN_PLACES],
+) -> [u64; MOST_GATES]
     requires { ⌜ NetOk (now arity) (now fanins) n m ⌝ }
     ensures { λ l. ⌜ Masked (now (arity .entry)) (now (fanins .entry)) l m ⌝ }
 {
-    let mut l = [0u64; 40];
+    let mut l = [0u64; MOST_GATES];
     let mut g = 0;
     while g < m {
         l[g] = fanin_mask(arity, fanins, g);
@@ -43,13 +54,13 @@ pub fn fanin_masks(n: usize, m: usize, arity: &[u8; 40], fanins: &[u8; 240]) -> 
 }
 
 // Signal s has the words of a row already.
-fn same_row(rows: &[u64; 800], s: usize, row: &[u64; 16], count: usize) -> bool
-    requires { ⌜ (s < 50) × (count ≤ 16) ⌝ }
+fn same_row(rows: &[u64; SIGNAL_WORDS], s: usize, row: &[u64; ROW_WORDS], count: usize) -> bool
+    requires { ⌜ (s < mostSignals) × (count ≤ rowWords) ⌝ }
     ensures { λ r. ⌜ (r ≡ true → (w : ℕ) → w < count → getD (now (row .entry)) w 0 ≡ getD (wordsAt (now (rows .entry)) w) s 0) ⌝ }
 {
     let mut w = 0;
     while w < count {
-        if row[w] != rows[16 * s + w] {
+        if row[w] != rows[ROW_WORDS * s + w] {
             return false;
         }
         w += 1;
@@ -61,19 +72,19 @@ fn same_row(rows: &[u64; 800], s: usize, row: &[u64; 16], count: usize) -> bool
 // are given back.
 fn step(
     n: usize,
-    arity: &[u8; 40],
-    fanins: &[u8; 240],
-    before: &[u64; 40],
-    tables: &[u64; 40],
-    masks: &[u64; 40],
+    arity: &[u8; MOST_GATES],
+    fanins: &[u8; FANIN_PLACES],
+    before: &[u64; MOST_GATES],
+    tables: &[u64; MOST_GATES],
+    masks: &[u64; MOST_GATES],
     count: usize,
-    rows: &mut [u64; 800],
+    rows: &mut [u64; SIGNAL_WORDS],
     changed: u64,
     h: usize,
 ) -> u64
-    requires { ⌜ (n ≤ 10) × (h < 40) × (count ≤ 16) ⌝ }
+    requires { ⌜ (n ≤ mostInputs) × (h < mostGates) × (count ≤ rowWords) ⌝ }
     requires { ⌜ GateOk (now arity) (now fanins) h (n + h) ⌝ }
-    requires { ⌜ length (now rows) ≡ 800 ⌝ }
+    requires { ⌜ length (now rows) ≡ signalWords ⌝ }
     ensures { λ r. ⌜ Stepped (now (arity .entry)) (now (fanins .entry)) (now (before .entry)) (now (tables .entry)) (now (masks .entry)) (now (rows .entry)) (now (rows .exit)) n count h changed r ⌝ }
 {
     let t = tables[h];
@@ -82,7 +93,7 @@ fn step(
             return changed;
         }
     }
-    let mut row = [0u64; 16];
+    let mut row = [0u64; ROW_WORDS];
     simulate::lut_row(t, arity, fanins, rows, count, h, &mut row);
     if same_row(rows, n + h, &row, count) {
         return changed;
@@ -95,21 +106,21 @@ fn step(
 fn update_from(
     n: usize,
     m: usize,
-    arity: &[u8; 40],
-    fanins: &[u8; 240],
-    before: &[u64; 40],
-    tables: &[u64; 40],
-    masks: &[u64; 40],
+    arity: &[u8; MOST_GATES],
+    fanins: &[u8; FANIN_PLACES],
+    before: &[u64; MOST_GATES],
+    tables: &[u64; MOST_GATES],
+    masks: &[u64; MOST_GATES],
     count: usize,
     from: usize,
-    rows: &mut [u64; 800],
+    rows: &mut [u64; SIGNAL_WORDS],
 )
     requires { ⌜ NetOk (now arity) (now fanins) n m ⌝ }
-    requires { ⌜ (count ≤ 16) × (from ≤ m) × (length (now rows) ≡ 800) ⌝ }
+    requires { ⌜ (count ≤ rowWords) × (from ≤ m) × (length (now rows) ≡ signalWords) ⌝ }
     requires { ⌜ Rows (now arity) (now fanins) (now before) (now rows) n m count ⌝ }
     requires { ⌜ Masked (now arity) (now fanins) (now masks) m ⌝ }
     requires { ⌜ ((g : ℕ) → g < from → getD (now before) g 0 ≡ getD (now tables) g 0) ⌝ }
-    ensures { λ _. ⌜ (length (now (rows .exit)) ≡ 800) × Rows (now (arity .entry)) (now (fanins .entry)) (now (tables .entry)) (now (rows .exit)) n m count ⌝ }
+    ensures { λ _. ⌜ (length (now (rows .exit)) ≡ signalWords) × Rows (now (arity .entry)) (now (fanins .entry)) (now (tables .entry)) (now (rows .exit)) n m count ⌝ }
 {
     let mut changed: u64 = 0;
     let mut h = from;
@@ -134,17 +145,17 @@ fn update_from(
 pub fn update(
     n: usize,
     m: usize,
-    arity: &[u8; 40],
-    fanins: &[u8; 240],
-    before: &[u64; 40],
-    tables: &[u64; 40],
+    arity: &[u8; MOST_GATES],
+    fanins: &[u8; FANIN_PLACES],
+    before: &[u64; MOST_GATES],
+    tables: &[u64; MOST_GATES],
     count: usize,
-    rows: &mut [u64; 800],
+    rows: &mut [u64; SIGNAL_WORDS],
 )
     requires { ⌜ NetOk (now arity) (now fanins) n m ⌝ }
-    requires { ⌜ (count ≤ 16) × (length (now rows) ≡ 800) ⌝ }
+    requires { ⌜ (count ≤ rowWords) × (length (now rows) ≡ signalWords) ⌝ }
     requires { ⌜ Rows (now arity) (now fanins) (now before) (now rows) n m count ⌝ }
-    ensures { λ _. ⌜ (length (now (rows .exit)) ≡ 800) × Rows (now (arity .entry)) (now (fanins .entry)) (now (tables .entry)) (now (rows .exit)) n m count ⌝ }
+    ensures { λ _. ⌜ (length (now (rows .exit)) ≡ signalWords) × Rows (now (arity .entry)) (now (fanins .entry)) (now (tables .entry)) (now (rows .exit)) n m count ⌝ }
 {
     let masks = fanin_masks(n, m, arity, fanins);
     update_from(n, m, arity, fanins, before, tables, &masks, count, 0, rows);
@@ -154,21 +165,21 @@ pub fn update(
 pub fn invert(
     n: usize,
     m: usize,
-    arity: &[u8; 40],
-    fanins: &[u8; 240],
-    tables: [u64; 40],
-    masks: &[u64; 40],
+    arity: &[u8; MOST_GATES],
+    fanins: &[u8; FANIN_PLACES],
+    tables: [u64; MOST_GATES],
+    masks: &[u64; MOST_GATES],
     count: usize,
     g: usize,
-    rows: &mut [u64; 800],
+    rows: &mut [u64; SIGNAL_WORDS],
 )
     requires { ⌜ NetOk (now arity) (now fanins) n m ⌝ }
-    requires { ⌜ (g < m) × (count ≤ 16) × (length (now rows) ≡ 800) ⌝ }
+    requires { ⌜ (g < m) × (count ≤ rowWords) × (length (now rows) ≡ signalWords) ⌝ }
     requires { ⌜ Rows (now arity) (now fanins) tables (now rows) n m count ⌝ }
     requires { ⌜ Masked (now arity) (now fanins) (now masks) m ⌝ }
-    ensures { λ _. ⌜ (length (now (rows .exit)) ≡ 800) × ((w b : ℕ) → w < count → b < 64 → take (n + m) (column (wordsAt (now (rows .exit)) w) b) ≡ runInverted (n + g) (places n (bit (w * 64 + b))) (gatesOf (now (arity .entry)) (now (fanins .entry)) tables m)) ⌝ }
+    ensures { λ _. ⌜ (length (now (rows .exit)) ≡ signalWords) × ((w b : ℕ) → w < count → b < 64 → take (n + m) (column (wordsAt (now (rows .exit)) w) b) ≡ runInverted (n + g) (places n (bit (w * 64 + b))) (gatesOf (now (arity .entry)) (now (fanins .entry)) tables m)) ⌝ }
 {
     let mut others = tables;
-    others[g] = bits::invert(tables[g]);
+    others[g] = bits::complement(tables[g]);
     update_from(n, m, arity, fanins, &tables, &others, masks, count, g, rows);
 }

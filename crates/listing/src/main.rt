@@ -1,10 +1,12 @@
 // Prints the listing of the network file that comes on standard input.
-// No file that loads is longer than 519 bytes, so the first 520 decide for any longer one.
+// No file that loads has as many bytes as are read, so these decide for any longer one.
 ghost use lib.ListN.{length};
 ghost use Rattle.listing.specs.Input.{Within};
 use libc::STDERR_FILENO;
 use libc::STDIN_FILENO;
 use libc::STDOUT_FILENO;
+use render::DECIDING_BYTES;
+use render::MOST_LISTING_BYTES;
 
 // So many bytes were read, or a read failed.
 pub enum Input {
@@ -38,13 +40,13 @@ fn print(text: &[u8]) {
 }
 
 fn print_listing(file: &[u8]) {
-    let mut text = [0u8; 1042];
+    let mut text = [0u8; MOST_LISTING_BYTES];
     let n = render::put_listing(&mut text, file);
     print(&text[..n]);
 }
 
 fn main() {
-    let mut file = [0u8; 520];
+    let mut file = [0u8; DECIDING_BYTES];
     let input = read_input(&mut file);
     match input {
         Input::Bytes(n) => print_listing(&file[..n]),

@@ -6,6 +6,8 @@ use native.Mathlib.Nat.{pow-le-pow-right}
 use native.Mathlib.Omega.{arith}
 use lib.ListN.{length}
 use borrow.Author.Tests.{lt-ltb, le-ltb}
+use Rattle.bits.specs.Bounds.{mostInputs}
+use Rattle.network.specs.Bounds.{mostSetBytes}
 use Rattle.network.specs.Load.{setBytes}
 use Rattle.network.specs.Write.{wordBytes}
 
@@ -16,7 +18,7 @@ length-words (w ∷ ws) = let h = length-words ws in omega arith
 pub set-small : (n : ℕ) → n < 3 → 1 ≡ setBytes n
 set-small n h = rw (lt-ltb n 3 h)
 
-pub set-large : (n r : ℕ) → 3 ≤ n → n ≤ 10 → r ≡ 2 ^ n → (r / 8 ≡ setBytes n) × (r / 8 ≤ 128)
+pub set-large : (n r : ℕ) → 3 ≤ n → n ≤ mostInputs → r ≡ 2 ^ n → (r / 8 ≡ setBytes n) × (r / 8 ≤ mostSetBytes)
 set-large n r h l e =
-    let b : 2 ^ n ≤ 1024 = pow-le-pow-right {n = 2} (omega arith) {i = n} {j = 10} l in
+    let b : 2 ^ n ≤ 1024 = pow-le-pow-right {n = 2} (omega arith) {i = n} {j = mostInputs} l in
     (rw (e, le-ltb n 3 h), omega arith)

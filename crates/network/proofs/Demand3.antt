@@ -14,6 +14,7 @@ use Rattle.bits.proofs.Logic.{clash, and-not, differs-e}
 use Rattle.network.specs.declared.Session.{Session}
 use Rattle.network.specs.declared.Answer.{Answer}
 use Rattle.network.specs.declared.Answer.the-variants.{Done, Refused}
+use Rattle.network.specs.Bounds.{mostGates}
 use Rattle.network.specs.Net.{Gate, Net, arity, isGate, gate, entries, patterns, excludedFor, output, Replacement, withTable}
 use Rattle.network.specs.Compatible.{closed}
 use Rattle.network.specs.Flat.{gateAt, netOf, netWith, loadedNet, currentNet}
@@ -139,7 +140,7 @@ last-swap N before behind a b ne k t =
 
 module _ (s : Session) (fresh : Fresh s) where
   final-at : (rs : List Replacement) (g : ℕ) → g < s .m → getD (finalTables s rs) g 0 ≡ lastAccepted (loadedNet s) rs (s .n + g) (getD (s .loaded) g 0)
-  final-at rs g h = places-at 0 40 (λ g. lastAccepted (loadedNet s) rs (s .n + g) (getD (s .loaded) g 0)) g (omega (arith, gates-most s fresh))
+  final-at rs g h = places-at 0 mostGates (λ g. lastAccepted (loadedNet s) rs (s .n + g) (getD (s .loaded) g 0)) g (omega (arith, gates-most s fresh))
 
   current-is : (rs : List Replacement) → currentNet (after s rs) ≡ netWith s (finalTables s rs)
   unfolding currentNet
@@ -148,7 +149,7 @@ module _ (s : Session) (fresh : Fresh s) where
   swapped : (before behind : List Replacement) (a b : Replacement) → a .signal ≢ b .signal → after s (before ++ b ∷ a ∷ behind) ≡ after s (before ++ a ∷ b ∷ behind)
   swapped before behind a b ne =
       after-is s fresh (before ++ b ∷ a ∷ behind)
-      ∙ ap (withCurrent s) (places-ext 40 _ _ (λ g _. last-swap (loadedNet s) before behind a b ne (s .n + g) (getD (s .loaded) g 0)))
+      ∙ ap (withCurrent s) (places-ext mostGates _ _ (λ g _. last-swap (loadedNet s) before behind a b ne (s .n + g) (getD (s .loaded) g 0)))
       ∙ sym (after-is s fresh (before ++ a ∷ b ∷ behind))
 
   pub demand3 : (rs : List Replacement) → Demand3 s rs

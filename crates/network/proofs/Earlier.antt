@@ -13,7 +13,7 @@ use Rattle.bits.proofs.Ranges.{and-l, and-r, places-at, number-lt}
 use Rattle.network.specs.Net.{Gate, Net, arity, isGate, gate, noGate, entry, run}
 use Rattle.network.specs.Flat.{gateAt, gatesOf, netOf}
 use Rattle.network.specs.Valid.{NetOk}
-use Rattle.network.proofs.Laws.{arity-at, fanin-at, length-gates}
+use Rattle.network.proofs.FlatGates.{arity-at, fanin-at, length-gates}
 
 -- each fan-in of gate g is a signal below j
 abbrev pub Below : ℕ → Gate → Type 0

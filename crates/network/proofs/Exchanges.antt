@@ -21,6 +21,7 @@ use Rattle.network.specs.declared.Exchanged.{Exchanged}
 use Rattle.network.specs.declared.Refusal.the-variants.{NotAGate, TableTooWide, ClosedEntry, BitPastEnd}
 use Rattle.network.specs.declared.Answer.{Answer}
 use Rattle.network.specs.declared.Answer.the-variants.{Done, Refused}
+use Rattle.network.specs.Bounds.{mostGates}
 use Rattle.network.specs.Net.{Net, arity, isGate, gate, entries, Replacement}
 use Rattle.network.specs.Compatible.{closed, openTable, openTables}
 use Rattle.network.specs.Flat.{gateAt, netOf, netWith, loadedNet}
@@ -29,7 +30,7 @@ use Rattle.network.specs.State.{arityOf, stateFault}
 use Rattle.network.specs.Calls.{gateTest, fits, tableTest, alters, entryFound, closedTest, withCurrent, exchangeTests, heldClosed, exchangeAnswer, exchanged, exchangeOf}
 use Rattle.network.specs.Sessions.{after, answers, answerBy, took, lastAccepted, finalTables}
 use Rattle.network.proofs.Fresh.{Fresh}
-use Rattle.network.proofs.Laws.{arity-at, length-gates}
+use Rattle.network.proofs.FlatGates.{arity-at, length-gates}
 use Rattle.network.proofs.TestLaws.{count-e}
 use Rattle.network.proofs.Valid.{Valid, valid-e, valid-i, state-i}
 use Rattle.network.proofs.Earlier.{gates-at, gate-bounds}
@@ -152,10 +153,10 @@ fits-e s r w f =
 
 -- ## The open tables
 
-pub open-at : (N : Net) (g : ℕ) → g < 40 → g < length (N .gates) → getD (openTables N) g 0 ≡ openTable N (N .inputs + g)
+pub open-at : (N : Net) (g : ℕ) → g < mostGates → g < length (N .gates) → getD (openTables N) g 0 ≡ openTable N (N .inputs + g)
 unfolding openTables
 open-at N g h l =
-    places-at 0 40 (λ g. cond (ltb g (length (N .gates))) (openTable N (N .inputs + g)) 0) g h
+    places-at 0 mostGates (λ g. cond (ltb g (length (N .gates))) (openTable N (N .inputs + g)) 0) g h
     ∙ ap (λ b. cond b (openTable N (N .inputs + g)) 0) (lt-ltb g (length (N .gates)) l)
 
 pub open-bit : (N : Net) (k t : ℕ) → t < entries N k → not (bit (openTable N k) t) ≡ closed N k t
@@ -166,12 +167,12 @@ open-bit N k t h = ap not (bit-table (entries N k) (λ t. not (closed N k t)) t 
 
 -- tables with which the session s is valid
 pub record ValidTables (s : Session) (ts : List ℕ) : Type 0 where
-  pub sized : length ts ≡ 40
+  pub sized : length ts ≡ mostGates
   pub valid : stateFault (withCurrent s ts) ≡ Done
 
 module _ (s : Session) (fresh : Fresh s) where
-  pub gates-most : s .m ≤ 40
-  gates-most = count-e 40 (s .m) (valid-e s (fresh .valid) .gates) .1
+  pub gates-most : s .m ≤ mostGates
+  gates-most = count-e mostGates (s .m) (valid-e s (fresh .valid) .gates) .1
 
   -- the open tables that the session holds are those of rule 7
   held-closed : (k : ℕ) → isGate (loadedNet s) k ≡ true → (t : ℕ) → t < entries (loadedNet s) k → heldClosed s k t ≡ closed (loadedNet s) k t
@@ -247,7 +248,7 @@ turn s fresh ts r (Refused f) w fine = record { next = ts; gives = refl; fine = 
 
 -- the tables after them, where they were ts
 abbrev lasting : Session → List Replacement → List ℕ → List ℕ
-lasting s rs ts = places 40 (λ g. lastAccepted (loadedNet s) rs (s .n + g) (getD ts g 0))
+lasting s rs ts = places mostGates (λ g. lastAccepted (loadedNet s) rs (s .n + g) (getD ts g 0))
 
 -- what the exchanges rs come to in the session that s and the tables ts make
 record Comes (s : Session) (ts : List ℕ) (rs : List Replacement) : Type 0 where
@@ -269,7 +270,7 @@ module _ (s : Session) (fresh : Fresh s) where
       record {
         session =
             ap (λ (e : Exchanged). after (e .session) rs) e ∙ rest .session
-            ∙ ap (withCurrent s) (places-ext 40 _ _ (λ g _. ap (lastAccepted (loadedNet s) rs (s .n + g)) (t .tables g)));
+            ∙ ap (withCurrent s) (places-ext mostGates _ _ (λ g _. ap (lastAccepted (loadedNet s) rs (s .n + g)) (t .tables g)));
         answered = ap₂ (λ (a : Answer) (l : List Answer). a ∷ l) (ap (λ (e : Exchanged). e .answer) e) (ap (λ (e : Exchanged). answers (e .session) rs) e ∙ rest .answered);
         valid = ap (λ (e : Exchanged). stateFault (after (e .session) rs)) e ∙ rest .valid;
       }

@@ -4,6 +4,7 @@ use mathlib.Core.Path.{_≡_}
 use lib.ListN.{length}
 use Rattle.network.specs.declared.Session.{Session}
 use Rattle.network.specs.declared.Answer.the-variants.{Done}
+use Rattle.network.specs.Bounds.{mostGates, faninPlaces}
 use Rattle.network.specs.Compatible.{openTables}
 use Rattle.network.specs.Flat.{loadedNet}
 use Rattle.network.specs.State.{stateFault}
@@ -13,6 +14,6 @@ pub record Fresh (s : Session) : Type 0 where
   pub same : s .current ≡ s .loaded
   pub held : s .open_tables ≡ openTables (loadedNet s)
   -- the lengths of its arrays
-  pub slots : length (s .fanins) ≡ 240
-  pub arities : length (s .arity) ≡ 40
-  pub tables : length (s .loaded) ≡ 40
+  pub slots : length (s .fanins) ≡ faninPlaces
+  pub arities : length (s .arity) ≡ mostGates
+  pub tables : length (s .loaded) ≡ mostGates

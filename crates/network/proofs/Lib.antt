@@ -1,4 +1,4 @@
-pub mod Laws
+pub mod FlatGates
 pub mod Bytes
 pub mod Fresh
 pub mod Valid

@@ -23,7 +23,7 @@ use Rattle.network.specs.State.{stateFault}
 use Rattle.network.specs.Calls.{gateTest, fits, tableTest, alters, harmTest, verdictOf}
 use Rattle.network.specs.Sessions.{NoHarm, LoneHarmless}
 use Rattle.network.proofs.TestLaws.{alone}
-use Rattle.network.proofs.Laws.{arity-at, length-gates}
+use Rattle.network.proofs.FlatGates.{arity-at, length-gates}
 use Rattle.network.proofs.Valid.{state-i, net-ok}
 use Rattle.network.proofs.Earlier.{Earlier, earlier-net, gates-at, gate-bounds, entry-below, entry-keep}
 use Rattle.network.proofs.Harm.{harm-done}

@@ -10,6 +10,7 @@ use lib.Dec.{leb, ltb}
 use lib.ListN.{length, getD, take, drop, set, replicate, length-take, getD-replicate, List·getD-eq-default}
 use lib.Pow.{pow-pos}
 use lib.Seq.{getD-drop, getD-take, length-take-le, getD-set-same, getD-set-other}
+use Rattle.bits.specs.Bounds.{mostInputs}
 use Rattle.bits.specs.Lists.{Bytes}
 use Rattle.bits.proofs.Ranges.{lt-cases, length-places, by-cases}
 use Rattle.network.specs.declared.Session.{Session}
@@ -17,6 +18,7 @@ use Rattle.network.specs.declared.Loaded.{Loaded}
 use Rattle.network.specs.declared.Refusal.the-variants.{TrailingBytes}
 use Rattle.network.specs.declared.Answer.{Answer}
 use Rattle.network.specs.declared.Answer.the-variants.{Done}
+use Rattle.network.specs.Bounds.{mostGates, mostOutputs, mostFanins, excludedWords}
 use Rattle.network.specs.Compatible.{openTable, openTables}
 use Rattle.network.specs.Flat.{loadedNet, currentNet}
 use Rattle.network.specs.Tests.{refuseIf, countTest, faninsTest, widthTest, excludedTest, outputTest}
@@ -27,14 +29,14 @@ use Rattle.network.specs.Load.{started, loadDone, littleEndian, withOutp
 use Rattle.network.proofs.Fresh.{Fresh}
 use Rattle.network.proofs.TestLaws.{clear-e, each-i, short-e, count-e, width-i, went}
 use Rattle.network.proofs.Valid.{GateValid, valid-i}
-use Rattle.network.proofs.Slots.{Room, room-gate, room-output, GateIs, gate-new, gate-kept}
+use Rattle.network.proofs.Slots.{Lengths, lengths-gate, lengths-output, GateIs, gate-new, gate-kept}
 
 -- a word of a session
 abbrev pub Wide : List ℕ → Type 0
 Wide ws = (w : ℕ) → getD ws w 0 < 2 ^ 64
 
 -- a gate that stands for one that passes
-gate-valid : (t : Session) (i k : ℕ) (fs : List ℕ) (lt ct : ℕ) → GateIs k fs lt ct t i → countTest 4 k ≡ Done → faninsTest (t .n + i) fs ≡ Done
+gate-valid : (t : Session) (i k : ℕ) (fs : List ℕ) (lt ct : ℕ) → GateIs k fs lt ct t i → countTest mostFanins k ≡ Done → faninsTest (t .n + i) fs ≡ Done
     → widthTest (2 ^ k) lt ≡ Done → widthTest (2 ^ k) ct ≡ Done → GateValid t i
 gate-valid t i k fs lt ct is a b c d =
     let ar = is .arity-is in
@@ -48,19 +50,19 @@ gate-valid t i k fs lt ct is a b c d =
 -- ## What holds once g gates and j outputs have been read from the bytes
 
 pub record Sound (bytes : List ℕ) (t : Session) (g j : ℕ) : Type 0 where
-  pub inputs : countTest 10 (t .n) ≡ Done
-  pub gates : countTest 40 (t .m) ≡ Done
-  pub outs : countTest 8 (t .p) ≡ Done
+  pub inputs : countTest mostInputs (t .n) ≡ Done
+  pub gates : countTest mostGates (t .m) ≡ Done
+  pub outs : countTest mostOutputs (t .p) ≡ Done
   pub set-fine : excludedTest (t .n) (t .excluded) ≡ Done
   pub gate : (i : ℕ) → i < g → GateValid t i
   pub output : (i : ℕ) → i < j → outputFault t i ≡ Done
-  pub room : Room t
+  pub lengths : Lengths t
   pub same : t .current ≡ t .loaded
-  pub words : length (t .excluded) ≡ 16
+  pub words : length (t .excluded) ≡ excludedWords
   pub wide : Bytes bytes → Wide (t .excluded)
 
 module _ (bytes : List ℕ) where
-  output-step : (t : Session) (g j x : ℕ) → j < 8 → outputTest (t .n + t .m) x ≡ Done → Sound bytes t g j → Sound bytes (withOutput t j x) g (j + 1)
+  output-step : (t : Session) (g j x : ℕ) → j < mostOutputs → outputTest (t .n + t .m) x ≡ Done → Sound bytes t g j → Sound bytes (withOutput t j x) g (j + 1)
   output-step t g j x b fine s =
       record {
         inputs = s .inputs;
@@ -73,17 +75,17 @@ module _ (bytes : List ℕ) where
             lt-cases i j (omega arith)
             (λ h. rw (getD-set-other (t .outputs) j i x 0 (λ e. omega arith)) (s .output i h))
             (λ e. rw (e, getD-set-same (t .outputs) j x 0 (omega arith)) fine);
-        room = room-output t j x (s .room);
+        lengths = lengths-output t j x (s .lengths);
         same = s .same;
         words = s .words;
         wide = s .wide;
       }
 
-  gate-step : (t : Session) (g k : ℕ) (fs : List ℕ) (tb : ℕ) → g < 40 → length fs ≡ k
-      → countTest 4 k ≡ Done → faninsTest (t .n + g) fs ≡ Done → widthTest (2 ^ k) tb ≡ Done
+  gate-step : (t : Session) (g k : ℕ) (fs : List ℕ) (tb : ℕ) → g < mostGates → length fs ≡ k
+      → countTest mostFanins k ≡ Done → faninsTest (t .n + g) fs ≡ Done → widthTest (2 ^ k) tb ≡ Done
       → Sound bytes t g 0 → Sound bytes (withGate t g k fs tb) (g + 1) 0
   gate-step t g k fs tb b len a f w s =
-      let kb = count-e 4 k a in
+      let kb = count-e mostFanins k a in
       record {
         inputs = s .inputs;
         gates = s .gates;
@@ -93,14 +95,14 @@ module _ (bytes : List ℕ) where
             lt-cases i g (omega arith)
             (λ h.
             let v = s .gate i h in
-            let ab = count-e 4 (arityOf t i) (v .arity-fine) in
+            let ab = count-e mostFanins (arityOf t i) (v .arity-fine) in
             gate-valid (withGate t g k fs tb) i (arityOf t i) (faninsOf t i) (getD (t .loaded) i 0) (getD (t .current) i 0)
             (gate-kept t g k fs tb (arityOf t i) (faninsOf t i) (getD (t .loaded) i 0) (getD (t .current) i 0) i (omega arith) h
             (record { arity-is = refl; fanins-are = refl; loaded-is = refl; current-is = refl }))
             (v .arity-fine) (v .fanins-fine) (v .loaded-fine) (v .current-fine))
-            (λ e. rw e (gate-valid (withGate t g k fs tb) g k fs tb tb (gate-new t g k fs tb (s .room) b len (omega arith)) a f w w));
+            (λ e. rw e (gate-valid (withGate t g k fs tb) g k fs tb tb (gate-new t g k fs tb (s .lengths) b len (omega arith)) a f w w));
         output = λ i l. let z : ⊥ = omega arith in absurd z;
-        room = room-gate t g k fs tb (s .room);
+        lengths = lengths-gate t g k fs tb (s .lengths);
         same = ap (λ (l : List ℕ). set l g tb) (s .same);
         words = s .words;
         wide = s .wide;
@@ -121,7 +123,7 @@ module _ (bytes : List ℕ) where
         let x = getD rest 2 0 in
         let w = went (outputRecord (t .n + t .m) rest) (readOutputs c (j + 1) (withOutput t j x) (drop 3 rest)) u h in
         let fine = clear-e (outputTests (t .n + t .m) rest) (w .0) .1 .1 .0 in
-        let pb = count-e 8 (t .p) (s .outs) in
+        let pb = count-e mostOutputs (t .p) (s .outs) in
         outputs-sound c (j + 1) (withOutput t j x) (drop 3 rest) (omega arith) (output-step t (t .m) j x (omega arith) fine s) (w .1)
 
     gates-sound : (c g : ℕ) (t : Session) (rest : List ℕ) → g + c ≡ t .m → Sound bytes t g 0
@@ -135,12 +137,12 @@ module _ (bytes : List ℕ) where
         let q = clear-e (load.gateTests (t .n + g) rest) (w .0) in
         let l = short-e (k + 2) (drop 3 rest) (q .1 .1 .1 .0) in
         let len = length-take-le k (drop 3 rest) (omega arith) in
-        let mb = count-e 40 (t .m) (s .gates) in
+        let mb = count-e mostGates (t .m) (s .gates) in
         gates-sound c (g + 1) t' (drop 2 (afterFanins rest)) (omega arith)
         (gate-step t g k (faninsIn rest) (tableIn rest) (omega arith) len (q .1 .1 .0) (q .1 .1 .1 .1 .0) (q .1 .1 .1 .1 .1 .0) s) (w .1)
 
-    words-sound : (n m p : ℕ) (ws rest : List ℕ) → countTest 10 n ≡ Done → countTest 40 m ≡ Done → countTest 8 p ≡ Done
-        → excludedTest n ws ≡ Done → length ws ≡ 16 → (Bytes bytes → Wide ws)
+    words-sound : (n m p : ℕ) (ws rest : List ℕ) → countTest mostInputs n ≡ Done → countTest mostGates m ≡ Done → countTest mostOutputs p ≡ Done
+        → excludedTest n ws ≡ Done → length ws ≡ excludedWords → (Bytes bytes → Wide ws)
         → readGates m 0 (withExcluded (started n m p) ws) rest ≡ loadDone u → Sound bytes u (u .m) (u .p)
     words-sound n m p ws rest a b d x len wide h =
         gates-sound m 0 (withExcluded (started n m p) ws) rest (omega arith)
@@ -151,7 +153,7 @@ module _ (bytes : List ℕ) where
           set-fine = x;
           gate = λ i l. let z : ⊥ = omega arith in absurd z;
           output = λ i l. let z : ⊥ = omega arith in absurd z;
-          room = record { arities = refl; slots = refl; loads = refl; currents = refl; outs = refl };
+          lengths = record { arities = refl; slots = refl; loads = refl; currents = refl; outs = refl };
           same = refl;
           words = len;
           wide = wide;
@@ -159,18 +161,18 @@ module _ (bytes : List ℕ) where
 
 -- ## The words of the excluded set
 
-no-bits : (n : ℕ) → excludedTest n (replicate 16 0) ≡ Done
+no-bits : (n : ℕ) → excludedTest n (replicate excludedWords 0) ≡ Done
 unfolding excludedTest
 no-bits n =
-    each-i (λ w. widthTest (2 ^ n - 64 * w) (getD (replicate 16 0) w 0)) 16
-    (λ w l. width-i (2 ^ n - 64 * w) (getD (replicate 16 0) w 0) (rw (getD-replicate {A = ℕ} 16 w 0 0 l) (pow-pos (2 ^ n - 64 * w))))
+    each-i (λ w. widthTest (2 ^ n - 64 * w) (getD (replicate excludedWords 0) w 0)) excludedWords
+    (λ w l. width-i (2 ^ n - 64 * w) (getD (replicate excludedWords 0) w 0) (rw (getD-replicate {A = ℕ} excludedWords w 0 0 l) (pow-pos (2 ^ n - 64 * w))))
 
-zero-wide : Wide (replicate 16 0)
-zero-wide w = by (decLt w 16)
+zero-wide : Wide (replicate excludedWords 0)
+zero-wide w = by (decLt w excludedWords)
   where
-    by : Dec (w < 16) → getD (replicate 16 0) w 0 < 2 ^ 64
-    by (yes y) = rw (getD-replicate {A = ℕ} 16 w 0 0 y) (omega arith)
-    by (no y) = rw (List·getD-eq-default {A = ℕ} (replicate 16 0) 0 {n = w} (omega arith)) (omega arith)
+    by : Dec (w < excludedWords) → getD (replicate excludedWords 0) w 0 < 2 ^ 64
+    by (yes y) = rw (getD-replicate {A = ℕ} excludedWords w 0 0 y) (omega arith)
+    by (no y) = rw (List·getD-eq-default {A = ℕ} (replicate excludedWords 0) 0 {n = w} (omega arith)) (omega arith)
 
 byte-drop : (n : ℕ) (l : List ℕ) → Bytes l → Bytes (drop n l)
 byte-drop n l b i = rw (getD-drop n l i 0) (b (n + i))
@@ -223,9 +225,9 @@ read-sound bytes u h =
     let x = went (excludedRecord n rest) (readGates m 0 (withExcluded (started n m p) (excludedIn n rest)) (drop (setBytes n) (drop 2 rest))) u (rw e at (w .1)) in
     let f = clear-e (excludedTests n rest) (x .0) in
     let bs = take (setBytes n) (drop 2 rest) in
-    words-sound bytes u n m p (excludedIn n rest) (drop (setBytes n) (drop 2 rest)) (c .0) (c .1 .0) (c .1 .1 .0) (f .1 .0) (words-length 16 bs)
-    (λ b. words-wide 16 bs (byte-take (setBytes n) (drop 2 rest) (byte-drop 2 rest (byte-drop 5 bytes b)))) (x .1))
-    (λ e. words-sound bytes u n m p (replicate 16 0) rest (c .0) (c .1 .0) (c .1 .1 .0) (no-bits n) refl (λ b. zero-wide) (rw e at (w .1)))
+    words-sound bytes u n m p (excludedIn n rest) (drop (setBytes n) (drop 2 rest)) (c .0) (c .1 .0) (c .1 .1 .0) (f .1 .0) (words-length excludedWords bs)
+    (λ b. words-wide excludedWords bs (byte-take (setBytes n) (drop 2 rest) (byte-drop 2 rest (byte-drop 5 bytes b)))) (x .1))
+    (λ e. words-sound bytes u n m p (replicate excludedWords 0) rest (c .0) (c .1 .0) (c .1 .1 .0) (no-bits n) refl (λ b. zero-wide) (rw e at (w .1)))
 
 sound-valid : (bytes : List ℕ) (u : Session) → Sound bytes u (u .m) (u .p) → stateFault u ≡ Done
 sound-valid bytes u s =
@@ -261,9 +263,9 @@ pub opened-current : (t : Session) → currentNet (opened t) ≡ currentNet t
 unfolding currentNet
 opened-current t = refl
 
-opened-length : (t : Session) → length (opened t .open_tables) ≡ 40
+opened-length : (t : Session) → length (opened t .open_tables) ≡ mostGates
 unfolding openTables
-opened-length t = length-places 40 (λ g. cond (ltb g (length (loadedNet t .gates))) (openTable (loadedNet t) (loadedNet t .inputs + g)) 0)
+opened-length t = length-places mostGates (λ g. cond (ltb g (length (loadedNet t .gates))) (openTable (loadedNet t) (loadedNet t .inputs + g)) 0)
 
 pub loaded-fresh : (bytes : List ℕ) (s : Session) → loadOf bytes ≡ loadDone s → Fresh s
 loaded-fresh bytes s h =
@@ -274,9 +276,9 @@ loaded-fresh bytes s h =
       valid = opened-fault t ∙ sound-valid bytes t d;
       same = d .same;
       held = ap openTables (sym (opened-loaded t));
-      slots = d .room .slots;
-      arities = d .room .arities;
-      tables = d .room .loads;
+      slots = d .lengths .slots;
+      arities = d .lengths .arities;
+      tables = d .lengths .loads;
     })
 
 pub loaded-shaped : (bytes : List ℕ) (s : Session) → Bytes bytes → loadOf bytes ≡ loadDone s → Shaped s
@@ -286,11 +288,11 @@ loaded-shaped bytes s b h =
     let d = read-sound bytes t (l .1) in
     rw (← (l .2)) (record {
       words = d .words;
-      arities = d .room .arities;
-      slots = d .room .slots;
-      loads = d .room .loads;
-      currents = d .room .currents;
+      arities = d .lengths .arities;
+      slots = d .lengths .slots;
+      loads = d .lengths .loads;
+      currents = d .lengths .currents;
       opens = opened-length t;
-      outs = d .room .outs;
+      outs = d .lengths .outs;
       wide = d .wide b;
     })

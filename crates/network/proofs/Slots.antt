@@ -6,9 +6,11 @@ use native.Mathlib.Nat.{add-zero}
 use native.Mathlib.Omega.{arith}
 use lib.ListN.{length, getD, set, length-set}
 use lib.Seq.{sets, length-sets, getD-set-same, getD-set-other, ext-getD}
+use Rattle.bits.specs.Bounds.{gatePlaces}
 use Rattle.bits.specs.Range.{places}
 use Rattle.bits.proofs.Ranges.{length-places, places-at, places-ext}
 use Rattle.network.specs.declared.Session.{Session}
+use Rattle.network.specs.Bounds.{mostGates, mostOutputs, faninPlaces}
 use Rattle.network.specs.State.{arityOf, faninsOf}
 use Rattle.network.specs.Load.{withGate, withOutput}
 
@@ -36,24 +38,24 @@ sets-at (v ∷ vs) l i (suc r) h b =
 
 -- ## A session's slots
 
-pub record Room (t : Session) : Type 0 where
-  pub arities : length (t .arity) ≡ 40
-  pub slots : length (t .fanins) ≡ 240
-  pub loads : length (t .loaded) ≡ 40
-  pub currents : length (t .current) ≡ 40
-  pub outs : length (t .outputs) ≡ 8
+pub record Lengths (t : Session) : Type 0 where
+  pub arities : length (t .arity) ≡ mostGates
+  pub slots : length (t .fanins) ≡ faninPlaces
+  pub loads : length (t .loaded) ≡ mostGates
+  pub currents : length (t .current) ≡ mostGates
+  pub outs : length (t .outputs) ≡ mostOutputs
 
-pub room-gate : (t : Session) (g k : ℕ) (fs : List ℕ) (tb : ℕ) → Room t → Room (withGate t g k fs tb)
-room-gate t g k fs tb r = record {
+pub lengths-gate : (t : Session) (g k : ℕ) (fs : List ℕ) (tb : ℕ) → Lengths t → Lengths (withGate t g k fs tb)
+lengths-gate t g k fs tb r = record {
   arities = length-set (t .arity) g k ∙ r .arities;
-  slots = length-sets (t .fanins) (6 * g) fs ∙ r .slots;
+  slots = length-sets (t .fanins) (gatePlaces * g) fs ∙ r .slots;
   loads = length-set (t .loaded) g tb ∙ r .loads;
   currents = length-set (t .current) g tb ∙ r .currents;
   outs = r .outs;
 }
 
-pub room-output : (t : Session) (i x : ℕ) → Room t → Room (withOutput t i x)
-room-output t i x r = record { arities = r .arities; slots = r .slots; loads = r .loads; currents = r .currents; outs = length-set (t .outputs) i x ∙ r .outs }
+pub lengths-output : (t : Session) (i x : ℕ) → Lengths t → Lengths (withOutput t i x)
+lengths-output t i x r = record { arities = r .arities; slots = r .slots; loads = r .loads; currents = r .currents; outs = length-set (t .outputs) i x ∙ r .outs }
 
 -- gate i has k fan-ins fs, the loaded table lt and the current table ct
 pub record GateIs (k : ℕ) (fs : List ℕ) (lt ct : ℕ) (t : Session) (i : ℕ) : Type 0 where
@@ -64,30 +66,30 @@ pub record GateIs (k : ℕ) (fs : List ℕ) (lt ct : ℕ) (t : Session) (i : ℕ
 
 module _ (t : Session) (g k : ℕ) (fs : List ℕ) (tb : ℕ) where
   -- the gate that is laid in
-  pub gate-new : Room t → g < 40 → length fs ≡ k → k ≤ 6 → GateIs k fs tb tb (withGate t g k fs tb) g
-  gate-new room l e b =
+  pub gate-new : Lengths t → g < mostGates → length fs ≡ k → k ≤ gatePlaces → GateIs k fs tb tb (withGate t g k fs tb) g
+  gate-new lengths l e b =
       let a = getD-set-same (t .arity) g k 0 (omega arith) in
-      let p : ℕ → ℕ = λ r. getD (sets (t .fanins) (6 * g) fs) (6 * g + r) 0 in
+      let p : ℕ → ℕ = λ r. getD (sets (t .fanins) (gatePlaces * g) fs) (gatePlaces * g + r) 0 in
       record {
         arity-is = a;
         fanins-are =
             ap (λ (x : ℕ). places x p) (a ∙ sym e)
-            ∙ places-ext (length fs) p (λ r. getD fs r 0) (λ r h. sets-at fs (t .fanins) (6 * g) r h (omega arith))
+            ∙ places-ext (length fs) p (λ r. getD fs r 0) (λ r h. sets-at fs (t .fanins) (gatePlaces * g) r h (omega arith))
             ∙ places-get fs;
         loaded-is = getD-set-same (t .loaded) g tb 0 (omega arith);
         current-is = getD-set-same (t .current) g tb 0 (omega arith);
       }
 
   -- a gate before it stays
-  pub gate-kept : (K : ℕ) (F : List ℕ) (L C i : ℕ) → K ≤ 6 → i < g → GateIs K F L C t i → GateIs K F L C (withGate t g k fs tb) i
+  pub gate-kept : (K : ℕ) (F : List ℕ) (L C i : ℕ) → K ≤ gatePlaces → i < g → GateIs K F L C t i → GateIs K F L C (withGate t g k fs tb) i
   gate-kept K F L C i b l a =
       let q : arityOf (withGate t g k fs tb) i ≡ arityOf t i = getD-set-other (t .arity) g i k 0 (λ e. omega arith) in
-      let p : ℕ → ℕ = λ r. getD (sets (t .fanins) (6 * g) fs) (6 * i + r) 0 in
+      let p : ℕ → ℕ = λ r. getD (sets (t .fanins) (gatePlaces * g) fs) (gatePlaces * i + r) 0 in
       record {
         arity-is = q ∙ a .arity-is;
         fanins-are =
             ap (λ (x : ℕ). places x p) q
-            ∙ places-ext (arityOf t i) p (λ r. getD (t .fanins) (6 * i + r) 0) (λ r h. sets-before fs (t .fanins) (6 * g) (6 * i + r) (omega arith))
+            ∙ places-ext (arityOf t i) p (λ r. getD (t .fanins) (gatePlaces * i + r) 0) (λ r h. sets-before fs (t .fanins) (gatePlaces * g) (gatePlaces * i + r) (omega arith))
             ∙ a .fanins-are;
         loaded-is = getD-set-other (t .loaded) g i tb 0 (λ e. omega arith) ∙ a .loaded-is;
         current-is = getD-set-other (t .current) g i tb 0 (λ e. omega arith) ∙ a .current-is;

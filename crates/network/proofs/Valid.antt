@@ -3,10 +3,12 @@ use mathlib.Core.Path.{_≡_, refl, subst}
 use Prim.Native.Nat.{ℕ, _+_, _*_, _^_, _<_}
 use native.Mathlib.Omega.{arith}
 use lib.ListN.{getD}
+use Rattle.bits.specs.Bounds.{mostInputs, gatePlaces}
 use Rattle.bits.proofs.Ranges.{length-places, places-at}
 use Rattle.network.specs.declared.Session.{Session}
 use Rattle.network.specs.declared.Answer.{Answer}
 use Rattle.network.specs.declared.Answer.the-variants.{Done, Refused}
+use Rattle.network.specs.Bounds.{mostGates, mostOutputs, mostFanins}
 use Rattle.network.specs.Tests.{countTest, faninsTest, widthTest, excludedTest}
 use Rattle.network.specs.State.{arityOf, faninsOf, gateTests, gateFault, outputFault, stateTests, stateFault, asInvalid, stateTest}
 use Rattle.network.specs.Valid.{GateOk, NetOk, OutputsOk}
@@ -16,15 +18,15 @@ use Rattle.network.proofs.TestLaws.{refused-done, clear-e, clear-i, eac
 
 -- what refusal 10 asks of gate g
 pub record GateValid (s : Session) (g : ℕ) : Type 0 where
-  pub arity-fine : countTest 4 (arityOf s g) ≡ Done
+  pub arity-fine : countTest mostFanins (arityOf s g) ≡ Done
   pub fanins-fine : faninsTest (s .n + g) (faninsOf s g) ≡ Done
   pub loaded-fine : widthTest (2 ^ arityOf s g) (getD (s .loaded) g 0) ≡ Done
   pub current-fine : widthTest (2 ^ arityOf s g) (getD (s .current) g 0) ≡ Done
 
 pub record Valid (s : Session) : Type 0 where
-  pub inputs : countTest 10 (s .n) ≡ Done
-  pub gates : countTest 40 (s .m) ≡ Done
-  pub outs : countTest 8 (s .p) ≡ Done
+  pub inputs : countTest mostInputs (s .n) ≡ Done
+  pub gates : countTest mostGates (s .m) ≡ Done
+  pub outs : countTest mostOutputs (s .p) ≡ Done
   pub set-fine : excludedTest (s .n) (s .excluded) ≡ Done
   pub gate : (g : ℕ) → g < s .m → GateValid s g
   pub output : (i : ℕ) → i < s .p → outputFault s i ≡ Done
@@ -77,20 +79,20 @@ state-i s e = rw e
 
 pub gate-ok : (s : Session) (g : ℕ) → GateValid s g → GateOk (s .arity) (s .fanins) g (s .n + g)
 gate-ok s g v =
-    let k = count-e 4 (arityOf s g) (v .arity-fine) in
+    let k = count-e mostFanins (arityOf s g) (v .arity-fine) in
     record {
       some = k .0;
       few = k .1;
-      early = λ r h. subst (λ (x : ℕ). x < s .n + g) (places-at 0 (arityOf s g) (λ r. getD (s .fanins) (6 * g + r) 0) r h)
-          (fanins-e (s .n + g) (faninsOf s g) (v .fanins-fine) r (omega (arith, length-places (arityOf s g) (λ r. getD (s .fanins) (6 * g + r) 0))));
+      early = λ r h. subst (λ (x : ℕ). x < s .n + g) (places-at 0 (arityOf s g) (λ r. getD (s .fanins) (gatePlaces * g + r) 0) r h)
+          (fanins-e (s .n + g) (faninsOf s g) (v .fanins-fine) r (omega (arith, length-places (arityOf s g) (λ r. getD (s .fanins) (gatePlaces * g + r) 0))));
     }
 
 pub net-ok : (s : Session) → stateFault s ≡ Done → NetOk (s .arity) (s .fanins) (s .n) (s .m)
 net-ok s e =
     let v = valid-e s e in
-    record { ins = count-e 10 (s .n) (v .inputs) .1; most = count-e 40 (s .m) (v .gates) .1; gate = λ g h. gate-ok s g (v .gate g h) }
+    record { ins = count-e mostInputs (s .n) (v .inputs) .1; most = count-e mostGates (s .m) (v .gates) .1; gate = λ g h. gate-ok s g (v .gate g h) }
 
 pub outputs-ok : (s : Session) → stateFault s ≡ Done → OutputsOk (s .outputs) (s .p) (s .n + s .m)
 outputs-ok s e =
     let v = valid-e s e in
-    record { most = count-e 8 (s .p) (v .outs) .1; each = λ i h. output-e (s .n + s .m) (getD (s .outputs) i 0) (v .output i h) }
+    record { most = count-e mostOutputs (s .p) (v .outs) .1; each = λ i h. output-e (s .n + s .m) (getD (s .outputs) i 0) (v .output i h) }

@@ -21,6 +21,7 @@ use Rattle.network.specs.declared.Counts.{Counts}
 use Rattle.network.specs.declared.Refusal.the-variants.{BufferTooShort, NotAGate, TableTooWide, ClosedEntry, Harm}
 use Rattle.network.specs.declared.Answer.{Answer}
 use Rattle.network.specs.declared.Answer.the-variants.{Done, Refused}
+use Rattle.network.specs.Bounds.{mostGates}
 use Rattle.network.specs.Net.{Net, isGate, gate, entries, patternOrder, Replacement, replaced}
 use Rattle.network.specs.DontCares.{sdc, cdc, odc, full, harms}
 use Rattle.network.specs.Compatible.{compatible, compatibleCount, perGate}
@@ -191,7 +192,7 @@ countsFor Done s = record {
   answer = Done;
   counts = perGate (s .m) (λ g. compatibleCount (loadedNet s) (s .n + g));
 }
-countsFor (Refused r) s = record { answer = Refused r; counts = replicate 40 0 }
+countsFor (Refused r) s = record { answer = Refused r; counts = replicate mostGates 0 }
 
 unfoldable pub countsOf : Session → Counts
 countsOf s = countsFor (stateTest s) s

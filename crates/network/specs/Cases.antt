@@ -8,6 +8,7 @@ use lib.ListN.{take, drop, set, replicate}
 use lib.Seq.{sets}
 use Rattle.bits.specs.Bit.{tableOf}
 use Rattle.network.specs.declared.Session.{Session}
+use Rattle.network.specs.Bounds.{mostGates, mostOutputs, faninPlaces, excludedWords}
 use Rattle.network.specs.Net.{Net, gate, patterns, Replacement, replaced}
 use Rattle.network.specs.DontCares.{sdc, cdc, odc, full}
 use Rattle.network.specs.Compatible.{freeFanins, compatible, compatibleCount, openTable}
@@ -35,13 +36,13 @@ held n m p exs ks fs ts os outs = record {
   n = n;
   m = m;
   p = p;
-  excluded = sets (replicate 16 0) 0 exs;
-  arity = sets (replicate 40 0) 0 ks;
-  fanins = sets (replicate 240 0) 0 fs;
-  loaded = sets (replicate 40 0) 0 ts;
-  current = sets (replicate 40 0) 0 ts;
-  open_tables = sets (replicate 40 0) 0 os;
-  outputs = sets (replicate 8 0) 0 outs;
+  excluded = sets (replicate excludedWords 0) 0 exs;
+  arity = sets (replicate mostGates 0) 0 ks;
+  fanins = sets (replicate faninPlaces 0) 0 fs;
+  loaded = sets (replicate mostGates 0) 0 ts;
+  current = sets (replicate mostGates 0) 0 ts;
+  open_tables = sets (replicate mostGates 0) 0 os;
+  outputs = sets (replicate mostOutputs 0) 0 outs;
 }
 
 abbrev pub twinSession : Session

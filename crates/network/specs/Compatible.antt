@@ -8,6 +8,7 @@ use lib.Dec.{eqb, leb, ltb}
 use lib.ListN.{length, getD}
 use Rattle.bits.specs.Range.{_⇒_, places, every, any, count}
 use Rattle.bits.specs.Bit.{bit, number, tableOf}
+use Rattle.network.specs.Bounds.{mostGates}
 use Rattle.network.specs.Net.{Gate, Net, arity, gate, entries, patterns, excludedFor, entry, values, entryOf}
 
 -- ## 6. Edge sets. A set of fan-ins has fan-in r at bit r
@@ -72,9 +73,9 @@ closed N s t = any (patterns N) (λ x. not (compatible N s x) && delivers N s x 
 unfoldable pub openTable : Net → ℕ → ℕ
 openTable N s = tableOf (entries N s) (λ t. not (closed N s t))
 
--- in 40 places, one for each of m gates: what p says, and 0 past the last
+-- as many places as there can be gates: what p says of each of m gates, and 0 past the last
 abbrev pub perGate : (m : ℕ) (p : ℕ → ℕ) → List ℕ
-perGate m p = places 40 (λ g. cond (ltb g m) (p g) 0)
+perGate m p = places mostGates (λ g. cond (ltb g m) (p g) 0)
 
 -- the open tables of all gates
 unfoldable pub openTables : Net → List ℕ

@@ -5,6 +5,7 @@ use mathlib.Core.List.{List}
 use Prim.Native.Nat.{ℕ, _+_, _*_, _^_}
 use lib.Dec.{ltb}
 use lib.ListN.{getD}
+use Rattle.bits.specs.Bounds.{gatePlaces}
 use Rattle.bits.specs.Range.{places}
 use Rattle.bits.specs.Bit.{tableOf}
 use Rattle.bits.specs.Cut.{wordCount}
@@ -13,7 +14,7 @@ use Rattle.network.specs.Net.{Gate, Net}
 
 -- gate g has its k fan-ins at places 6 g and on
 abbrev pub faninsAt : (arity fanins : List ℕ) → ℕ → List ℕ
-faninsAt ks fs g = places (getD ks g 0) (λ r. getD fs (6 * g + r) 0)
+faninsAt ks fs g = places (getD ks g 0) (λ r. getD fs (gatePlaces * g + r) 0)
 
 module _ (ks fs ts : List ℕ) where
   unfoldable pub gateAt : ℕ → Gate

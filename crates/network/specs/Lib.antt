@@ -1,3 +1,4 @@
+pub mod Bounds
 pub mod Net
 pub mod DontCares
 pub mod Compatible

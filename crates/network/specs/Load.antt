@@ -6,12 +6,14 @@ use Prim.Native.Nat.{ℕ, zero, suc, _+_, _*_, _^_, _/_}
 use lib.Dec.{leb, ltb, eqb}
 use lib.ListN.{length, getD, take, drop, set, replicate}
 use lib.Seq.{sets}
+use Rattle.bits.specs.Bounds.{mostInputs, gatePlaces}
 use Rattle.network.specs.declared.Session.{Session}
 use Rattle.network.specs.declared.Loaded.{Loaded}
 use Rattle.network.specs.declared.Refusal.{Refusal}
 use Rattle.network.specs.declared.Refusal.the-variants.{TrailingBytes}
 use Rattle.network.specs.declared.Answer.{Answer}
 use Rattle.network.specs.declared.Answer.the-variants.{Done, Refused}
+use Rattle.network.specs.Bounds.{mostGates, mostOutputs, mostFanins, faninPlaces, excludedWords}
 use Rattle.network.specs.Compatible.{openTables}
 use Rattle.network.specs.Flat.{loadedNet}
 use Rattle.network.specs.Tests.{refuseIf, first, lengthTest, mark, markTest, countTest, faninsTest, widthTest, excludedTest, outputTest}
@@ -22,13 +24,13 @@ started n m p = record {
   n = n;
   m = m;
   p = p;
-  excluded = replicate 16 0;
-  arity = replicate 40 0;
-  fanins = replicate 240 0;
-  loaded = replicate 40 0;
-  current = replicate 40 0;
-  open_tables = replicate 40 0;
-  outputs = replicate 8 0;
+  excluded = replicate excludedWords 0;
+  arity = replicate mostGates 0;
+  fanins = replicate faninPlaces 0;
+  loaded = replicate mostGates 0;
+  current = replicate mostGates 0;
+  open_tables = replicate mostGates 0;
+  outputs = replicate mostOutputs 0;
 }
 
 abbrev pub loadDone : Session → Loaded
@@ -93,7 +95,7 @@ abbrev pub gateTests : ℕ → List ℕ → List Answer
 gateTests limit rest =
     markTest 0x4E47 rest
     ∷ lengthTest 3 rest
-    ∷ countTest 4 (getD rest 2 0)
+    ∷ countTest mostFanins (getD rest 2 0)
     ∷ lengthTest (getD rest 2 0 + 2) (drop 3 rest)
     ∷ faninsTest limit (faninsIn rest)
     ∷ widthTest (2 ^ getD rest 2 0) (tableIn rest)
@@ -109,7 +111,7 @@ withGate t g k fs table = record {
   p = t .p;
   excluded = t .excluded;
   arity = set (t .arity) g k;
-  fanins = sets (t .fanins) (6 * g) fs;
+  fanins = sets (t .fanins) (gatePlaces * g) fs;
   loaded = set (t .loaded) g table;
   current = set (t .current) g table;
   open_tables = t .open_tables;
@@ -134,7 +136,7 @@ wordsFrom zero bs = []
 wordsFrom (suc c) bs = littleEndian (take 8 bs) ∷ wordsFrom c (drop 8 bs)
 
 abbrev pub excludedIn : ℕ → List ℕ → List ℕ
-excludedIn n rest = wordsFrom 16 (take (setBytes n) (drop 2 rest))
+excludedIn n rest = wordsFrom excludedWords (take (setBytes n) (drop 2 rest))
 
 abbrev pub withExcluded : Session → List ℕ → Session
 withExcluded t words = record {
@@ -172,9 +174,9 @@ abbrev pub headerTests : List ℕ → List Answer
 headerTests rest =
     markTest 0x4E49 rest
     ∷ lengthTest 5 rest
-    ∷ countTest 10 (getD rest 2 0)
-    ∷ countTest 40 (getD rest 3 0)
-    ∷ countTest 8 (getD rest 4 0)
+    ∷ countTest mostInputs (getD rest 2 0)
+    ∷ countTest mostGates (getD rest 3 0)
+    ∷ countTest mostOutputs (getD rest 4 0)
     ∷ []
 
 unfoldable pub headerRecord : List ℕ → Answer

@@ -12,6 +12,7 @@ use Rattle.network.specs.declared.Session.{Session}
 use Rattle.network.specs.declared.Refusal.the-variants.{NotAGate, TableTooWide, ClosedEntry}
 use Rattle.network.specs.declared.Answer.{Answer}
 use Rattle.network.specs.declared.Answer.the-variants.{Done, Refused}
+use Rattle.network.specs.Bounds.{mostGates}
 use Rattle.network.specs.Net.{Net, isGate, gate, entries, patterns, excludedFor, output, Replacement}
 use Rattle.network.specs.DontCares.{full, harms}
 use Rattle.network.specs.Compatible.{closed}
@@ -49,7 +50,7 @@ lastAccepted N (r ∷ rs) s t = lastAccepted N rs s (took (answerBy N r) r s t)
 
 -- each gate's last accepted table, or the loaded one
 abbrev pub finalTables : Session → List Replacement → List ℕ
-finalTables s rs = places 40 (λ g. lastAccepted (loadedNet s) rs (s .n + g) (getD (s .loaded) g 0))
+finalTables s rs = places mostGates (λ g. lastAccepted (loadedNet s) rs (s .n + g) (getD (s .loaded) g 0))
 
 -- a closed entry that the replacement alters
 abbrev pub AltersClosed : Net → Replacement → ℕ → Type 0

@@ -3,11 +3,13 @@
 use mathlib.Core.List.{List, [], _∷_, map}
 use Prim.Native.Nat.{ℕ, _+_, _^_}
 use lib.ListN.{getD}
+use Rattle.bits.specs.Bounds.{mostInputs}
 use Rattle.bits.specs.Range.{upFrom}
 use Rattle.network.specs.declared.Session.{Session}
 use Rattle.network.specs.declared.Refusal.the-variants.{InvalidState}
 use Rattle.network.specs.declared.Answer.{Answer}
 use Rattle.network.specs.declared.Answer.the-variants.{Done, Refused}
+use Rattle.network.specs.Bounds.{mostGates, mostOutputs, mostFanins}
 use Rattle.network.specs.Flat.{faninsAt}
 use Rattle.network.specs.Tests.{first, countTest, faninsTest, widthTest, excludedTest, outputTest}
 
@@ -20,7 +22,7 @@ faninsOf s g = faninsAt (s .arity) (s .fanins) g
 -- 3 to 6, of gate g
 abbrev pub gateTests : Session → ℕ → List Answer
 gateTests s g =
-    countTest 4 (arityOf s g)
+    countTest mostFanins (arityOf s g)
     ∷ faninsTest (s .n + g) (faninsOf s g)
     ∷ widthTest (2 ^ arityOf s g) (getD (s .loaded) g 0)
     ∷ widthTest (2 ^ arityOf s g) (getD (s .current) g 0)
@@ -34,9 +36,9 @@ outputFault s i = outputTest (s .n + s .m) (getD (s .outputs) i 0)
 
 abbrev pub stateTests : Session → List Answer
 stateTests s =
-    countTest 10 (s .n)
-    ∷ countTest 40 (s .m)
-    ∷ countTest 8 (s .p)
+    countTest mostInputs (s .n)
+    ∷ countTest mostGates (s .m)
+    ∷ countTest mostOutputs (s .p)
     ∷ excludedTest (s .n) (s .excluded)
     ∷ first (map (gateFault s) (upFrom 0 (s .m)))
     ∷ first (map (outputFault s) (upFrom 0 (s .p)))
@@ -50,6 +52,6 @@ abbrev pub asInvalid : Answer → Answer
 asInvalid Done = Done
 asInvalid (Refused r) = Refused InvalidState
 
--- 10
+-- 10: whichever of them it is
 unfoldable pub stateTest : Session → Answer
 stateTest s = asInvalid (stateFault s)

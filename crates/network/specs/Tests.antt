@@ -10,6 +10,7 @@ use Rattle.network.specs.declared.Refusal.{Refusal}
 use Rattle.network.specs.declared.Refusal.the-variants.{Truncated, UnexpectedMark, OutOfBounds, FaninNotEarlier, FaninRepeated, BitPastEnd, NotASignal}
 use Rattle.network.specs.declared.Answer.{Answer}
 use Rattle.network.specs.declared.Answer.the-variants.{Done, Refused}
+use Rattle.network.specs.Bounds.{excludedWords}
 
 -- ## A list of tests
 
@@ -64,9 +65,9 @@ faninsTest limit fs = first (map (faninTest limit fs) (upFrom 0 (length fs)))
 abbrev pub widthTest : ℕ → ℕ → Answer
 widthTest bits x = refuseIf (not (ltb x (2 ^ bits))) BitPastEnd
 
--- 6, of the excluded set: 16 words of 64 patterns, of which 2^n count
+-- 6, of the excluded set: words of 64 patterns, of which 2^n count
 unfoldable pub excludedTest : ℕ → List ℕ → Answer
-excludedTest n words = first (map (λ w. widthTest (2 ^ n - 64 * w) (getD words w 0)) (upFrom 0 16))
+excludedTest n words = first (map (λ w. widthTest (2 ^ n - 64 * w) (getD words w 0)) (upFrom 0 excludedWords))
 
 -- 7: an output that is no signal
 abbrev pub outputTest : ℕ → ℕ → Answer

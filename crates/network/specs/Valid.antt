@@ -4,32 +4,34 @@ use mathlib.Core.Path.{_≡_}
 use mathlib.Core.List.{List}
 use Prim.Native.Nat.{ℕ, _+_, _*_, _^_, _<_, _≤_}
 use lib.ListN.{length, getD}
+use Rattle.bits.specs.Bounds.{mostInputs, gatePlaces}
 use Rattle.network.specs.declared.Session.{Session}
+use Rattle.network.specs.Bounds.{mostGates, mostOutputs, mostFanins, faninPlaces, excludedWords}
 
 -- gate g has one to four fan-ins, each a signal below e
 pub record GateOk (arity fanins : List ℕ) (g e : ℕ) : Type 0 where
   pub some : 1 ≤ getD arity g 0
-  pub few : getD arity g 0 ≤ 4
-  pub early : (r : ℕ) → r < getD arity g 0 → getD fanins (6 * g + r) 0 < e
+  pub few : getD arity g 0 ≤ mostFanins
+  pub early : (r : ℕ) → r < getD arity g 0 → getD fanins (gatePlaces * g + r) 0 < e
 
 -- the first m gates, each with earlier signals as fan-ins
 pub record NetOk (arity fanins : List ℕ) (n m : ℕ) : Type 0 where
-  pub ins : n ≤ 10
-  pub most : m ≤ 40
+  pub ins : n ≤ mostInputs
+  pub most : m ≤ mostGates
   pub gate : (g : ℕ) → g < m → GateOk arity fanins g (n + g)
 
 -- the first p outputs are signals below e
 pub record OutputsOk (outputs : List ℕ) (p e : ℕ) : Type 0 where
-  pub most : p ≤ 8
+  pub most : p ≤ mostOutputs
   pub each : (i : ℕ) → i < p → getD outputs i 0 < e
 
 -- the lengths of a session's arrays, and the range of a word
 pub record Shaped (s : Session) : Type 0 where
-  pub words : length (s .excluded) ≡ 16
-  pub arities : length (s .arity) ≡ 40
-  pub slots : length (s .fanins) ≡ 240
-  pub loads : length (s .loaded) ≡ 40
-  pub currents : length (s .current) ≡ 40
-  pub opens : length (s .open_tables) ≡ 40
-  pub outs : length (s .outputs) ≡ 8
+  pub words : length (s .excluded) ≡ excludedWords
+  pub arities : length (s .arity) ≡ mostGates
+  pub slots : length (s .fanins) ≡ faninPlaces
+  pub loads : length (s .loaded) ≡ mostGates
+  pub currents : length (s .current) ≡ mostGates
+  pub opens : length (s .open_tables) ≡ mostGates
+  pub outs : length (s .outputs) ≡ mostOutputs
   pub wide : (w : ℕ) → getD (s .excluded) w 0 < 2 ^ 64

@@ -1,23 +1,56 @@
 ghost use mathlib.Core.Path.{_≡_};
 ghost use Prim.Native.Nat.{_≤_};
+ghost use Rattle.bits.specs.Bounds.{mostInputs};
+ghost use Rattle.network.specs.Bounds.{mostSetBytes};
 ghost use Rattle.network.specs.Load.{setBytes, loadRefused};
 ghost use Rattle.network.specs.Load as file;
 ghost use Rattle.network.specs.Refusals.{numberOf};
+use bits::GATE_PLACES;
+use bits::MOST_INPUTS;
+use bits::ROW_WORDS;
+
+// The bounds of m, p and k, and the most signals.
+pub const MOST_GATES: usize = 40;
+
+pub const MOST_OUTPUTS: usize = 8;
+
+pub const MOST_FANINS: usize = 4;
+
+pub const MOST_SIGNALS: usize = MOST_INPUTS + MOST_GATES;
+
+// The places for the fan-ins of all gates; the excluded words of a session; the words of a row for each signal, and for each gate.
+pub const FANIN_PLACES: usize = MOST_GATES * GATE_PLACES;
+
+pub const EXCLUDED_WORDS: usize = ROW_WORDS;
+
+pub const SIGNAL_WORDS: usize = MOST_SIGNALS * ROW_WORDS;
+
+pub const GATE_WORDS: usize = MOST_GATES * ROW_WORDS;
+
+// The most bytes of a set of patterns, of a gate's record, and of a file.
+pub const MOST_SET_BYTES: usize = (1 << MOST_INPUTS) / 8;
+
+pub const MOST_GATE_BYTES: usize = MOST_FANINS + 5;
+
+pub const MOST_FILE_BYTES: usize = 5
+    + (2 + MOST_SET_BYTES)
+    + MOST_GATES * MOST_GATE_BYTES
+    + 3 * MOST_OUTPUTS;
 
 // A session: the loaded and the current network in flat arrays, and the open tables that the load gave.
-// Gate g has its fan-ins at places 6 * g and on; a table has entry t at bit t.
+// Gate g has its fan-ins at places GATE_PLACES * g and on; a table has entry t at bit t.
 // A one in the excluded set means that the pattern never comes.
 pub struct Session {
     pub n: u8,
     pub m: u8,
     pub p: u8,
-    pub excluded: [u64; 16],
-    pub arity: [u8; 40],
-    pub fanins: [u8; 240],
-    pub loaded: [u64; 40],
-    pub current: [u64; 40],
-    pub open_tables: [u64; 40],
-    pub outputs: [u8; 8],
+    pub excluded: [u64; EXCLUDED_WORDS],
+    pub arity: [u8; MOST_GATES],
+    pub fanins: [u8; FANIN_PLACES],
+    pub loaded: [u64; MOST_GATES],
+    pub current: [u64; MOST_GATES],
+    pub open_tables: [u64; MOST_GATES],
+    pub outputs: [u8; MOST_OUTPUTS],
 }
 
 // Why a call is refused, in the order of the numbers 1 to 14.
@@ -76,7 +109,7 @@ pub enum WriteAnswer {
 // The number of patterns in the compatible set of each gate, 0 past the last gate and in a refusal.
 pub struct Counts {
     pub answer: Answer,
-    pub counts: [u64; 40],
+    pub counts: [u64; MOST_GATES],
 }
 
 // The session that holds nothing but the counts.
@@ -87,13 +120,13 @@ pub fn started(n: u8, m: u8, p: u8) -> Session
         n: n,
         m: m,
         p: p,
-        excluded: [0u64; 16],
-        arity: [0u8; 40],
-        fanins: [0u8; 240],
-        loaded: [0u64; 40],
-        current: [0u64; 40],
-        open_tables: [0u64; 40],
-        outputs: [0u8; 8],
+        excluded: [0u64; EXCLUDED_WORDS],
+        arity: [0u8; MOST_GATES],
+        fanins: [0u8; FANIN_PLACES],
+        loaded: [0u64; MOST_GATES],
+        current: [0u64; MOST_GATES],
+        open_tables: [0u64; MOST_GATES],
+        outputs: [0u8; MOST_OUTPUTS],
     }
 }
 
@@ -117,8 +150,8 @@ pub fn place(x: u8) -> usize
 
 // How many bytes hold 2^n bits.
 pub fn set_bytes(n: u8) -> usize
-    requires { ⌜ n ≤ 10 ⌝ }
-    ensures { λ r. ⌜ (r ≡ setBytes n) × (r ≤ 128) ⌝ }
+    requires { ⌜ n ≤ mostInputs ⌝ }
+    ensures { λ r. ⌜ (r ≡ setBytes n) × (r ≤ mostSetBytes) ⌝ }
 {
     if n < 3 {
         return 1;

@@ -1,19 +1,23 @@
 // The bytes of a network, written into a lent buffer record after record.
 ghost use mathlib.Core.Path.{_≡_};
-ghost use Prim.Native.Nat.{_+_, _<_, _≤_};
+ghost use Prim.Native.Nat.{_+_, _*_, _<_, _≤_};
 ghost use lib.ListN.{length, take};
+ghost use Rattle.bits.specs.Bounds.{mostInputs};
 ghost use Rattle.bits.specs.Lists.{overwritten};
 ghost use Rattle.buffer.specs.Laid.{Room, Laid};
 ghost use Rattle.network.specs.declared.Answer.the-variants.{Done};
+ghost use Rattle.network.specs.Bounds.{mostGates, mostOutputs, mostFanins, mostSetBytes, mostGateBytes, mostFileBytes};
 ghost use Rattle.network.specs.State.{arityOf, stateFault};
 ghost use Rattle.network.specs.Write.{wordBytes, allZero, excludedBytes, gateBytes, gatesBytes, outputsBytes, bytesOf};
+use bits::GATE_PLACES;
+use network::EXCLUDED_WORDS;
 use network::Session;
 
 // Each function that puts bytes does so from place at on and returns the place behind them.
 
 // The first z bytes of the words.
-fn put_words(buf: &mut [u8], at: usize, words: [u64; 16], z: usize) -> usize
-    requires { ⌜ (z ≤ 128) × (at + z ≤ length (now buf)) ⌝ }
+fn put_words(buf: &mut [u8], at: usize, words: [u64; EXCLUDED_WORDS], z: usize) -> usize
+    requires { ⌜ (z ≤ mostSetBytes) × (at + z ≤ length (now buf)) ⌝ }
     ensures { λ r. ⌜ Laid (now (buf .entry)) at (take z (wordBytes words)) (now (buf .exit)) r ⌝ }
 {
     let mut a = at;
@@ -31,11 +35,11 @@ fn put_words(buf: &mut [u8], at: usize, words: [u64; 16], z: usize) -> usize
 }
 
 // Whether no pattern is excluded.
-fn none(words: [u64; 16]) -> bool
+fn none(words: [u64; EXCLUDED_WORDS]) -> bool
     ensures { λ r. ⌜ r ≡ allZero words ⌝ }
 {
     let mut w: usize = 0;
-    while w < 16 {
+    while w < EXCLUDED_WORDS {
         if words[w] != 0 {
             return false;
         }
@@ -45,7 +49,7 @@ fn none(words: [u64; 16]) -> bool
 }
 
 fn put_excluded(buf: &mut [u8], at: usize, s: Session) -> usize
-    requires { ⌜ (s .n ≤ 10) × Room (now buf) at (excludedBytes s) ⌝ }
+    requires { ⌜ (s .n ≤ mostInputs) × Room (now buf) at (excludedBytes s) ⌝ }
     ensures { λ r. ⌜ Laid (now (buf .entry)) at (excludedBytes s) (now (buf .exit)) r ⌝ }
 {
     let words = s.excluded;
@@ -58,13 +62,13 @@ fn put_excluded(buf: &mut [u8], at: usize, s: Session) -> usize
 }
 
 fn put_gate(buf: &mut [u8], at: usize, s: Session, g: usize) -> usize
-    requires { ⌜ (g < 40) × (arityOf s g ≤ 4) × Room (now buf) at (gateBytes s g) ⌝ }
+    requires { ⌜ (g < mostGates) × (arityOf s g ≤ mostFanins) × Room (now buf) at (gateBytes s g) ⌝ }
     ensures { λ r. ⌜ Laid (now (buf .entry)) at (gateBytes s g) (now (buf .exit)) r ⌝ }
 {
     let k = s.arity[g];
     let table = s.current[g];
     let fanins = s.fanins;
-    let b = 6 * g;
+    let b = GATE_PLACES * g;
     let e = b + (k as usize);
     let opening = [0x4E, 0x47, k];
     let a = buffer::copy(buf, at, &opening);
@@ -87,7 +91,7 @@ fn put_gates(buf: &mut [u8], at: usize, s: Session) -> usize
 }
 
 fn put_outputs(buf: &mut [u8], at: usize, s: Session) -> usize
-    requires { ⌜ (s .p ≤ 8) × Room (now buf) at (outputsBytes s (s .p) 0) ⌝ }
+    requires { ⌜ (s .p ≤ mostOutputs) × Room (now buf) at (outputsBytes s (s .p) 0) ⌝ }
     ensures { λ r. ⌜ Laid (now (buf .entry)) at (outputsBytes s (s .p) 0) (now (buf .exit)) r ⌝ }
 {
     let p = s.p as usize;
@@ -104,8 +108,8 @@ fn put_outputs(buf: &mut [u8], at: usize, s: Session) -> usize
 
 // How long the excluded record is.
 fn excluded_size(s: Session) -> usize
-    requires { ⌜ s .n ≤ 10 ⌝ }
-    ensures { λ r. ⌜ (r ≡ length (excludedBytes s)) × (r ≤ 130) ⌝ }
+    requires { ⌜ s .n ≤ mostInputs ⌝ }
+    ensures { λ r. ⌜ (r ≡ length (excludedBytes s)) × (r ≤ 2 + mostSetBytes) ⌝ }
 {
     let words = s.excluded;
     if none(words) {
@@ -117,7 +121,7 @@ fn excluded_size(s: Session) -> usize
 // How long the gates' records are.
 fn gates_size(s: Session) -> usize
     requires { ⌜ stateFault s ≡ Done ⌝ }
-    ensures { λ r. ⌜ (r ≡ length (gatesBytes s (s .m) 0)) × (r ≤ 360) ⌝ }
+    ensures { λ r. ⌜ (r ≡ length (gatesBytes s (s .m) 0)) × (r ≤ mostGates * mostGateBytes) ⌝ }
 {
     let m = s.m as usize;
     let mut size: usize = 0;
@@ -133,7 +137,7 @@ fn gates_size(s: Session) -> usize
 // How long the file of a valid session is.
 pub fn bytes_needed(s: Session) -> usize
     requires { ⌜ stateFault s ≡ Done ⌝ }
-    ensures { λ r. ⌜ (r ≡ length (bytesOf s)) × (r ≤ 519) ⌝ }
+    ensures { λ r. ⌜ (r ≡ length (bytesOf s)) × (r ≤ mostFileBytes) ⌝ }
 {
     5 + excluded_size(s) + gates_size(s) + 3 * (s.p as usize)
 }

@@ -11,12 +11,14 @@ use lib.Dec.{eqb}
 use lib.ListN.{length, getD, take, set, length-append, length-set}
 use lib.Seq.{ext-getD, getD-take, getD-set-same, getD-set-other, length-take-le, take-append-le}
 use borrow.Author.Tests.{ne-eqb}
+use Rattle.bits.specs.Bounds.{rowWords}
 use Rattle.bits.specs.Range.{places, every, any}
 use Rattle.bits.specs.Bit.{bit, differs, column}
 use Rattle.bits.proofs.BitLaws.{bit-or, bit-xor}
 use Rattle.bits.proofs.Cuts.{every-not}
 use Rattle.bits.proofs.Logic.{not-not}
 use Rattle.bits.proofs.Ranges.{length-places, places-at, every-ext, column-at, column-length}
+use Rattle.network.specs.Bounds.{mostSignals, signalWords}
 use Rattle.network.specs.Net.{Gate, entry, run, values}
 use Rattle.network.specs.DontCares.{runInverted, valuesInverted, odc}
 use Rattle.network.specs.Flat.{gatesOf, netOf}
@@ -31,13 +33,13 @@ module _ (outs rows other : List ℕ) (w b : ℕ) where
   differing i = differs (valueAt rows (getD outs i 0) w b) (valueAt other (getD outs i 0) w b)
 
   -- one output more
-  pub observed-step : (old v i s : ℕ) → s ≡ getD outs i 0 → v ≡ bitOr old (bitXor (getD rows (16 * s + w) 0) (getD other (16 * s + w) 0))
+  pub observed-step : (old v i s : ℕ) → s ≡ getD outs i 0 → v ≡ bitOr old (bitXor (getD rows (rowWords * s + w) 0) (getD other (rowWords * s + w) 0))
       → bit old b ≡ any i differing → bit v b ≡ any (i + 1) differing
   observed-step old v i s es ev ih =
       ap (λ (x : ℕ). bit x b) ev
-      ∙ bit-or old (bitXor (getD rows (16 * s + w) 0) (getD other (16 * s + w) 0)) b
+      ∙ bit-or old (bitXor (getD rows (rowWords * s + w) 0) (getD other (rowWords * s + w) 0)) b
       ∙ ap₂ (λ (x y : Bool). x || y) ih
-      (bit-xor (getD rows (16 * s + w) 0) (getD other (16 * s + w) 0) b ∙ ap (λ (q : ℕ). differs (valueAt rows q w b) (valueAt other q w b)) es)
+      (bit-xor (getD rows (rowWords * s + w) 0) (getD other (rowWords * s + w) 0) b ∙ ap (λ (q : ℕ). differs (valueAt rows q w b) (valueAt other q w b)) es)
       ∙ rw add-one
 
   same : (x y : Bool) → not (differs x y) ≡ Bool·beq y x
@@ -47,7 +49,7 @@ module _ (outs rows other : List ℕ) (w b : ℕ) where
   same false false = refl
 
   -- some output differs where the pattern is not in the ODC
-  pub observed-odc : (ks fs ts ex : List ℕ) (n m p g : ℕ) → n + m < 51 → ((i : ℕ) → i < p → getD outs i 0 < n + m)
+  pub observed-odc : (ks fs ts ex : List ℕ) (n m p g : ℕ) → n + m < mostSignals + 1 → ((i : ℕ) → i < p → getD outs i 0 < n + m)
       → take (n + m) (column (wordsAt rows w) b) ≡ run (places n (bit (w * 64 + b))) (gatesOf ks fs ts m)
       → take (n + m) (column (wordsAt other w) b) ≡ runInverted (n + g) (places n (bit (w * 64 + b))) (gatesOf ks fs ts m)
       → any p differing ≡ not (odc (netOf ks fs ts n m ex outs p) (n + g) (w * 64 + b))
@@ -78,7 +80,7 @@ module _ (outs rows other : List ℕ) (w b : ℕ) where
 
 -- ## The rows taken back
 
-pub taken-step : (rows other₀ other : List ℕ) (a i : ℕ) → a ≤ i → i < 800 → Taken rows other₀ other a i → Taken rows other₀ (set other i (getD rows i 0)) a (i + 1)
+pub taken-step : (rows other₀ other : List ℕ) (a i : ℕ) → a ≤ i → i < signalWords → Taken rows other₀ other a i → Taken rows other₀ (set other i (getD rows i 0)) a (i + 1)
 taken-step rows other₀ other a i ha hi c = (
   simp length-set (c .0),
   λ q h l. done q h l (ℕ-discrete q i),
@@ -116,7 +118,7 @@ before-inverted s (g ∷ gs) vs i h = go (ℕ-discrete (length vs) s) (before-in
     go (no n) next = ap (λ (c : Bool). getD (runInverted s (vs ++ differs c v ∷ []) gs) i false) (ne-eqb (length vs) s n) ∙ next
 
 -- once they are taken back from the inverted gate on, the words are those of the values
-module _ (rows other new : List ℕ) (s e w b : ℕ) (room : e < 51) (hw : w < 16) (c : Taken rows other new (16 * s) (16 * e)) where
+module _ (rows other new : List ℕ) (s e w b : ℕ) (room : e < mostSignals + 1) (hw : w < rowWords) (c : Taken rows other new (rowWords * s) (rowWords * e)) where
   pub taken-back : (vs : List Bool) (gs : List Gate)
       → take e (column (wordsAt rows w) b) ≡ run vs gs → take e (column (wordsAt other w) b) ≡ runInverted s vs gs → take e (column (wordsAt new w) b) ≡ run vs gs
   taken-back vs gs sim alt =
@@ -126,13 +128,13 @@ module _ (rows other new : List ℕ) (s e w b : ℕ) (room : e < 51) (hw : w < 1
       size : (l : List ℕ) → length (take e (column (wordsAt l w) b)) ≡ e
       size l = length-take-le e (column (wordsAt l w) b) (omega (arith, column-length (wordsAt l w) b, words-long l w))
 
-      value : (l : List ℕ) (i : ℕ) → i < e → getD (take e (column (wordsAt l w) b)) i false ≡ bit (getD l (16 * i + w) 0) b
+      value : (l : List ℕ) (i : ℕ) → i < e → getD (take e (column (wordsAt l w) b)) i false ≡ bit (getD l (rowWords * i + w) 0) b
       value l i h =
           getD-take e (column (wordsAt l w) b) i false h ∙ column-at (wordsAt l w) b i ∙ ap (λ (x : ℕ). bit x b) (words-at l w i (omega arith))
 
       at : (i : ℕ) → i < e → Dec (i < s) → getD (take e (column (wordsAt new w) b)) i false ≡ getD (take e (column (wordsAt rows w) b)) i false
       at i h (yes l) =
-          value new i h ∙ ap (λ (x : ℕ). bit x b) (c .2 (16 * i + w) (omega arith)) ∙ sym (value other i h)
+          value new i h ∙ ap (λ (x : ℕ). bit x b) (c .2 (rowWords * i + w) (omega arith)) ∙ sym (value other i h)
           ∙ ap (λ (v : List Bool). getD v i false) alt ∙ before-inverted s gs vs i l ∙ sym (ap (λ (v : List Bool). getD v i false) sim)
       at i h (no n) =
-          value new i h ∙ ap (λ (x : ℕ). bit x b) (c .1 (16 * i + w) (omega arith) (omega arith)) ∙ sym (value rows i h)
+          value new i h ∙ ap (λ (x : ℕ). bit x b) (c .1 (rowWords * i + w) (omega arith) (omega arith)) ∙ sym (value rows i h)

@@ -5,6 +5,7 @@ use mathlib.Core.List.{List, map}
 use Prim.Native.Nat.{ℕ, _+_, _*_, _/_, _%_, _^_, _<_}
 use native.Mathlib.Omega.{arith}
 use lib.ListN.{getD}
+use Rattle.bits.specs.Bounds.{gatePlaces}
 use Rattle.bits.specs.Range.{any}
 use Rattle.bits.specs.Bit.{bit, number, tableOf}
 use Rattle.bits.specs.Cut.{Framed}
@@ -16,7 +17,7 @@ use Rattle.network.specs.Compatible.{agree, compatible, delivers, closed, openT
 use Rattle.network.specs.Flat.{gateAt, netOf, loadedNet}
 use Rattle.network.specs.State.{stateFault}
 use Rattle.network.specs.Valid.{NetOk}
-use Rattle.network.proofs.Laws.{arity-at, entry-at, length-gates}
+use Rattle.network.proofs.FlatGates.{arity-at, entry-at, length-gates}
 use Rattle.network.proofs.Earlier.{gate-is}
 use Rattle.network.proofs.Valid.{net-ok}
 use Rattle.simulate.specs.Simulated.{Simulated, wordsAt, Rows}
@@ -43,24 +44,24 @@ module _ (ks fs ts ex outs : List ℕ) (n m p : ℕ) where
       abbrev x : ℕ
       x = w * 64 + b
 
-      entry-is : (g : ℕ) → g < m → entry (values N x) (gateAt ks fs ts g) ≡ tableOf (getD ks g 0) (λ r. bit (getD ws (getD fs (6 * g + r) 0) 0) b)
+      entry-is : (g : ℕ) → g < m → entry (values N x) (gateAt ks fs ts g) ≡ tableOf (getD ks g 0) (λ r. bit (getD ws (getD fs (gatePlaces * g + r) 0) 0) b)
       entry-is g h =
           entry-at ks fs ts (values N x) g
-          ∙ table-ext (getD ks g 0) (λ r. getD (values N x) (getD fs (6 * g + r) 0) false) (λ r. bit (getD ws (getD fs (6 * g + r) 0) 0) b)
-          (λ r l. value-at ks fs ts ex outs n m p ok ws w sim b hb (getD fs (6 * g + r) 0) (omega (arith, ok .gate g h .early r l)))
+          ∙ table-ext (getD ks g 0) (λ r. getD (values N x) (getD fs (gatePlaces * g + r) 0) false) (λ r. bit (getD ws (getD fs (gatePlaces * g + r) 0) 0) b)
+          (λ r l. value-at ks fs ts ex outs n m p ok ws w sim b hb (getD fs (gatePlaces * g + r) 0) (omega (arith, ok .gate g h .early r l)))
 
       module _ (hs : List ℕ) (set-at : (s : ℕ) → s < n + m → bit (getD hs s 0) b ≡ compatible N s x) (g : ℕ) (hg : g < m) where
         movedAt : ℕ
-        movedAt = tableOf (getD ks g 0) (λ r. bit (getD hs (getD fs (6 * g + r) 0) 0) b)
+        movedAt = tableOf (getD ks g 0) (λ r. bit (getD hs (getD fs (gatePlaces * g + r) 0) 0) b)
 
         moved-is : movedAt ≡ number (map (λ f. compatible N f x) (gateAt ks fs ts g .fanins))
         unfolding movedAt gateAt
         moved-is =
-            table-ext (getD ks g 0) (λ r. bit (getD hs (getD fs (6 * g + r) 0) 0) b) (λ r. compatible N (getD fs (6 * g + r) 0) x)
-            (λ r l. set-at (getD fs (6 * g + r) 0) (omega (arith, ok .gate g hg .early r l)))
-            ∙ ap number (sym (map-places (λ f. compatible N f x) (getD ks g 0) (λ r. getD fs (6 * g + r) 0)))
+            table-ext (getD ks g 0) (λ r. bit (getD hs (getD fs (gatePlaces * g + r) 0) 0) b) (λ r. compatible N (getD fs (gatePlaces * g + r) 0) x)
+            (λ r l. set-at (getD fs (gatePlaces * g + r) 0) (omega (arith, ok .gate g hg .early r l)))
+            ∙ ap number (sym (map-places (λ f. compatible N f x) (getD ks g 0) (λ r. getD fs (gatePlaces * g + r) 0)))
 
-        delivers-is : (t : ℕ) → agree (getD ks g 0) movedAt (tableOf (getD ks g 0) (λ r. bit (getD ws (getD fs (6 * g + r) 0) 0) b)) t ≡ delivers N (n + g) x t
+        delivers-is : (t : ℕ) → agree (getD ks g 0) movedAt (tableOf (getD ks g 0) (λ r. bit (getD ws (getD fs (gatePlaces * g + r) 0) 0) b)) t ≡ delivers N (n + g) x t
         unfolding delivers
         delivers-is t =
             ap₂ (λ (f e : ℕ). agree (getD ks g 0) f e t) moved-is (sym (entry-is g hg))

@@ -3,6 +3,7 @@ use mathlib.Core.Bool.{Bool, not, _&&_}
 use mathlib.Core.List.{List}
 use Prim.Native.Nat.{ℕ, _+_, _-_, _*_, _/_, _%_, _^_}
 use lib.ListN.{getD}
+use Rattle.bits.specs.Bounds.{gatePlaces}
 use Rattle.bits.specs.Range.{any}
 use Rattle.bits.specs.Bit.{bit, tableOf}
 use Rattle.network.specs.Compatible.{agree}
@@ -14,7 +15,7 @@ abbrev pub closes : (ks fs ws hs : List ℕ) (n g t b : ℕ) → Bool
 closes ks fs ws hs n g t b =
     let k = getD ks g 0 in
     not (bit (getD hs (n + g) 0) b)
-    && agree k (tableOf k (λ r. bit (getD hs (getD fs (6 * g + r) 0) 0) b)) (tableOf k (λ r. bit (getD ws (getD fs (6 * g + r) 0) 0) b)) t
+    && agree k (tableOf k (λ r. bit (getD hs (getD fs (gatePlaces * g + r) 0) 0) b)) (tableOf k (λ r. bit (getD ws (getD fs (gatePlaces * g + r) 0) 0) b)) t
 
 -- the entries of gate g that some place of live closes in the word
 unfoldable pub closedIn : (ks fs ws hs : List ℕ) (n live g : ℕ) → ℕ

@@ -11,8 +11,8 @@ use borrow.Author.Tests.{lt-ltb}
 use Rattle.bits.specs.Lists.{Bytes}
 use Rattle.network.specs.declared.Session.{Session}
 use Rattle.network.specs.Valid.{Shaped}
-use Rattle.packed.specs.Packed.{bytesHeld, wordsHeld, packedOf, Narrow, part}
-use Rattle.packed.proofs.Laws.{length-bytes}
+use Rattle.packed.specs.Packed.{bytesHeld, wordsHeld, packedOf, Narrow, part, arityStart, sessionWords, byteWords}
+use Rattle.packed.proofs.Reading.{length-bytes}
 
 -- what stands at a place, and what stands behind it
 pub cut : (ws xs ys : List ℕ) (at n : ℕ) → drop at ws ≡ xs ++ ys → length xs ≡ n → (xs ≡ part ws at n) × (drop (at + n) ws ≡ ys)
@@ -27,7 +27,7 @@ pub regroup : (a b c d e f g h : List ℕ) → (a ++ b ++ c) ++ (d ++ e ++ f ++ 
 regroup a b c d e f g h = simp append-assoc
 
 -- the first three one by one
-pub three : (ws : List ℕ) → 3 ≤ length ws → getD ws 0 0 ∷ getD ws 1 0 ∷ getD ws 2 0 ∷ part ws 3 424 ≡ take 427 ws
+pub three : (ws : List ℕ) → 3 ≤ length ws → getD ws 0 0 ∷ getD ws 1 0 ∷ getD ws 2 0 ∷ part ws arityStart (sessionWords - arityStart) ≡ take sessionWords ws
 three [] h = let z : ⊥ = omega arith in absurd z
 three (x ∷ []) h = let z : ⊥ = omega arith in absurd z
 three (x ∷ y ∷ []) h = let z : ⊥ = omega arith in absurd z
@@ -69,7 +69,7 @@ bytes-held s b =
     (b .slots))
     (b .outs)
 
-pub fits : (s : Session) (behind : List ℕ) → Shaped s → Narrow s → (i : ℕ) → i < 291 → ltb (getD (packedOf s ++ behind) i 0) 256 ≡ true
+pub fits : (s : Session) (behind : List ℕ) → Shaped s → Narrow s → (i : ℕ) → i < byteWords → ltb (getD (packedOf s ++ behind) i 0) 256 ≡ true
 unfolding packedOf
 fits s behind z b i l =
     let n = length-bytes s z in

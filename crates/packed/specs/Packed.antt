@@ -1,13 +1,14 @@
 -- A session as a list of numbers, one to a word: how a program in another language holds it. Assumes nothing.
 use mathlib.Core.Bool.{Bool, true, not, _&&_}
 use mathlib.Core.List.{List, [], _∷_, _++_}
-use Prim.Native.Nat.{ℕ, _<_}
+use Prim.Native.Nat.{ℕ, _+_, _<_}
 use lib.Dec.{ltb}
 use lib.ListN.{getD, take, drop}
 use Rattle.network.specs.declared.Session.{Session}
 use Rattle.network.specs.declared.Loaded.{Loaded}
 use Rattle.network.specs.declared.Refusal.the-variants.{InvalidState}
 use Rattle.network.specs.declared.Answer.{Answer}
+use Rattle.network.specs.Bounds.{mostGates, mostOutputs, faninPlaces, excludedWords}
 use Rattle.network.specs.Tests.{refuseIf, first}
 use Rattle.network.specs.State.{stateTest}
 use Rattle.network.specs.Load.{loadDone, onward}
@@ -24,12 +25,35 @@ wordsHeld s = s .excluded ++ s .loaded ++ s .current ++ s .open_tables
 unfoldable pub packedOf : Session → List ℕ
 packedOf s = bytesHeld s ++ wordsHeld s
 
--- how many there are, and how many of them are held in bytes
+-- ## The layout: where each part starts behind the three counts
+
+abbrev pub arityStart : ℕ
+arityStart = 3
+
+abbrev pub faninsStart : ℕ
+faninsStart = arityStart + mostGates
+
+abbrev pub outputsStart : ℕ
+outputsStart = faninsStart + faninPlaces
+
+abbrev pub excludedStart : ℕ
+excludedStart = outputsStart + mostOutputs
+
+abbrev pub loadedStart : ℕ
+loadedStart = excludedStart + excludedWords
+
+abbrev pub currentStart : ℕ
+currentStart = loadedStart + mostGates
+
+abbrev pub openStart : ℕ
+openStart = currentStart + mostGates
+
+-- how many words there are, and how many of them hold bytes
 abbrev pub sessionWords : ℕ
-sessionWords = 427
+sessionWords = openStart + mostGates
 
 abbrev pub byteWords : ℕ
-byteWords = 291
+byteWords = excludedStart
 
 -- the range of what a session holds in bytes
 pub record Narrow (s : Session) : Type 0 where
@@ -48,13 +72,13 @@ sessionIn ws = record {
   n = getD ws 0 0;
   m = getD ws 1 0;
   p = getD ws 2 0;
-  excluded = part ws 291 16;
-  arity = part ws 3 40;
-  fanins = part ws 43 240;
-  loaded = part ws 307 40;
-  current = part ws 347 40;
-  open_tables = part ws 387 40;
-  outputs = part ws 283 8;
+  excluded = part ws excludedStart excludedWords;
+  arity = part ws arityStart mostGates;
+  fanins = part ws faninsStart faninPlaces;
+  loaded = part ws loadedStart mostGates;
+  current = part ws currentStart mostGates;
+  open_tables = part ws openStart mostGates;
+  outputs = part ws outputsStart mostOutputs;
 }
 
 -- each of the numbers is a byte

@@ -6,23 +6,47 @@ ghost use lib.ListN.{length, getD, set};
 ghost use lib.Seq.{sets};
 ghost use Rattle.bits.specs.Range.{every};
 ghost use Rattle.bits.specs.Lists.{overwritten};
+ghost use Rattle.network.specs.Bounds.{mostGates};
 ghost use Rattle.network.specs.Calls.{withCurrent};
-ghost use Rattle.packed.specs.Packed.{bytesHeld, wordsHeld, packedOf, sessionWords, part, sessionIn, unpackOf};
+ghost use Rattle.packed.specs.Packed.{bytesHeld, wordsHeld, packedOf, sessionWords, part, sessionIn, unpackOf, excludedStart, byteWords};
 use network::Answer;
+use network::EXCLUDED_WORDS;
+use network::FANIN_PLACES;
 use network::Loaded;
+use network::MOST_GATES;
+use network::MOST_OUTPUTS;
 use network::Refusal;
 use network::Session;
 
-// The words that a session takes.
+// Where each part of a session starts behind the three counts.
+const ARITY_START: usize = 3;
+
+const FANINS_START: usize = ARITY_START + MOST_GATES;
+
+const OUTPUTS_START: usize = FANINS_START + FANIN_PLACES;
+
+const EXCLUDED_START: usize = OUTPUTS_START + MOST_OUTPUTS;
+
+const LOADED_START: usize = EXCLUDED_START + EXCLUDED_WORDS;
+
+const CURRENT_START: usize = LOADED_START + MOST_GATES;
+
+const OPEN_START: usize = CURRENT_START + MOST_GATES;
+
+// How many words a session takes, and how many of them hold bytes.
+pub const SESSION_WORDS: usize = OPEN_START + MOST_GATES;
+
+const BYTE_WORDS: usize = EXCLUDED_START;
+
 pub fn session_words() -> usize
     ensures { λ r. ⌜ r ≡ sessionWords ⌝ }
 {
-    427
+    SESSION_WORDS
 }
 
 // What a session holds in bytes.
 fn pack_bytes(s: Session, words: &mut [u64])
-    requires { ⌜ 427 ≤ length (now words) ⌝ }
+    requires { ⌜ sessionWords ≤ length (now words) ⌝ }
     ensures { λ _. ⌜ now (words .exit) ≡ sets (now (words .entry)) 0 (bytesHeld s) ⌝ }
 {
     let counts = [s.n, s.m, s.p];
@@ -30,29 +54,29 @@ fn pack_bytes(s: Session, words: &mut [u64])
     let fanins = s.fanins;
     let outputs = s.outputs;
     buffer::lay_bytes(words, 0, &counts);
-    buffer::lay_bytes(words, 3, &arity);
-    buffer::lay_bytes(words, 43, &fanins);
-    buffer::lay_bytes(words, 283, &outputs);
+    buffer::lay_bytes(words, ARITY_START, &arity);
+    buffer::lay_bytes(words, FANINS_START, &fanins);
+    buffer::lay_bytes(words, OUTPUTS_START, &outputs);
 }
 
 // What it holds in words.
 fn pack_words(s: Session, words: &mut [u64])
-    requires { ⌜ 427 ≤ length (now words) ⌝ }
-    ensures { λ _. ⌜ now (words .exit) ≡ sets (now (words .entry)) 291 (wordsHeld s) ⌝ }
+    requires { ⌜ sessionWords ≤ length (now words) ⌝ }
+    ensures { λ _. ⌜ now (words .exit) ≡ sets (now (words .entry)) excludedStart (wordsHeld s) ⌝ }
 {
     let excluded = s.excluded;
     let loaded = s.loaded;
     let current = s.current;
     let opens = s.open_tables;
-    buffer::lay_words(words, 291, &excluded);
-    buffer::lay_words(words, 307, &loaded);
-    buffer::lay_words(words, 347, &current);
-    buffer::lay_words(words, 387, &opens);
+    buffer::lay_words(words, EXCLUDED_START, &excluded);
+    buffer::lay_words(words, LOADED_START, &loaded);
+    buffer::lay_words(words, CURRENT_START, &current);
+    buffer::lay_words(words, OPEN_START, &opens);
 }
 
 // The session from the start of the words; the words behind it stay.
 pub fn pack(s: Session, words: &mut [u64])
-    requires { ⌜ 427 ≤ length (now words) ⌝ }
+    requires { ⌜ sessionWords ≤ length (now words) ⌝ }
     ensures { λ _. ⌜ now (words .exit) ≡ overwritten (packedOf s) (now (words .entry)) ⌝ }
 {
     pack_bytes(s, words);
@@ -61,10 +85,10 @@ pub fn pack(s: Session, words: &mut [u64])
 
 // In words that hold a session, gate g's current table is set: as if the session were packed with it, but one word is written.
 pub fn set_current(words: &mut [u64], g: usize, table: u64)
-    requires { ⌜ (427 ≤ length (now words)) × (g < 40) ⌝ }
+    requires { ⌜ (sessionWords ≤ length (now words)) × (g < mostGates) ⌝ }
     ensures { λ _. ⌜ now (words .exit) ≡ overwritten (packedOf (withCurrent (sessionIn (now (words .entry))) (set (sessionIn (now (words .entry)) .current) g table))) (now (words .entry)) ⌝ }
 {
-    words[347 + g] = table;
+    words[CURRENT_START + g] = table;
 }
 
 // Whether each of the first c words fits in a byte.
@@ -105,26 +129,26 @@ fn read_words(words: &[u64], at: usize, new: &mut [u64])
     }
 }
 
-// The session that words hold, where each of the first 291 fits in a byte.
+// The session that words hold, where each of those that hold bytes fits in one.
 fn session_in(words: &[u64]) -> Session
-    requires { ⌜ 427 ≤ length (now words) ⌝ }
-    requires { ⌜ ((i : ℕ) → i < 291 → getD (now words) i 0 < 256) ⌝ }
+    requires { ⌜ sessionWords ≤ length (now words) ⌝ }
+    requires { ⌜ ((i : ℕ) → i < byteWords → getD (now words) i 0 < 256) ⌝ }
     ensures { λ r. ⌜ r ≡ sessionIn (now (words .entry)) ⌝ }
 {
-    let mut arity = [0u8; 40];
-    let mut fanins = [0u8; 240];
-    let mut outputs = [0u8; 8];
-    let mut excluded = [0u64; 16];
-    let mut loaded = [0u64; 40];
-    let mut current = [0u64; 40];
-    let mut opens = [0u64; 40];
-    read_bytes(words, 3, &mut arity);
-    read_bytes(words, 43, &mut fanins);
-    read_bytes(words, 283, &mut outputs);
-    read_words(words, 291, &mut excluded);
-    read_words(words, 307, &mut loaded);
-    read_words(words, 347, &mut current);
-    read_words(words, 387, &mut opens);
+    let mut arity = [0u8; MOST_GATES];
+    let mut fanins = [0u8; FANIN_PLACES];
+    let mut outputs = [0u8; MOST_OUTPUTS];
+    let mut excluded = [0u64; EXCLUDED_WORDS];
+    let mut loaded = [0u64; MOST_GATES];
+    let mut current = [0u64; MOST_GATES];
+    let mut opens = [0u64; MOST_GATES];
+    read_bytes(words, ARITY_START, &mut arity);
+    read_bytes(words, FANINS_START, &mut fanins);
+    read_bytes(words, OUTPUTS_START, &mut outputs);
+    read_words(words, EXCLUDED_START, &mut excluded);
+    read_words(words, LOADED_START, &mut loaded);
+    read_words(words, CURRENT_START, &mut current);
+    read_words(words, OPEN_START, &mut opens);
     Session {
         n: words[0] as u8,
         m: words[1] as u8,
@@ -143,10 +167,10 @@ fn session_in(words: &[u64]) -> Session
 pub fn unpack(words: &[u64]) -> Loaded
     ensures { λ r. ⌜ r ≡ unpackOf (now (words .entry)) ⌝ }
 {
-    if words.len() < 427 {
+    if words.len() < SESSION_WORDS {
         return network::refused(Refusal::BufferTooShort);
     }
-    if !fit(words, 291) {
+    if !fit(words, BYTE_WORDS) {
         return network::refused(Refusal::InvalidState);
     }
     let s = session_in(words);

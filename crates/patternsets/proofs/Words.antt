@@ -6,6 +6,7 @@ use Prim.Native.Nat.{ℕ, zero, suc, _+_, _*_, _<_}
 use native.Mathlib.Nat.{zero-mul, suc-mul}
 use native.Mathlib.Omega.{arith}
 use lib.ListN.{length, getD, drop, length-append}
+use Rattle.bits.specs.Bounds.{rowWords}
 use Rattle.bits.specs.Cut.{wordCount}
 use Rattle.bits.specs.Lists.{overwritten}
 use Rattle.bits.proofs.Ranges.{length-places, places-ext}
@@ -18,11 +19,11 @@ use Rattle.patternsets.specs.Stretches.{row, stretches}
 
 -- the places of each gate g below m hold the words of the set p g
 abbrev pub Held : (n m : ℕ) → List ℕ → (ℕ → ℕ → Bool) → Type 0
-Held n m l p = (g w : ℕ) → g < m → w < wordCount n → getD l (16 * g + w) 0 ≡ wordOf n (p g) w
+Held n m l p = (g w : ℕ) → g < m → w < wordCount n → getD l (rowWords * g + w) 0 ≡ wordOf n (p g) w
 
 row-words : (n m : ℕ) (l : List ℕ) (p : ℕ → ℕ → Bool) → Held n m l p → (g : ℕ) → g < m → row l (wordCount n) g ≡ wordsOf n (p g)
 unfolding wordsOf
-row-words n m l p h g lt = places-ext (wordCount n) (λ w. getD l (16 * g + w) 0) (wordOf n (p g)) (λ w. h g w lt)
+row-words n m l p h g lt = places-ext (wordCount n) (λ w. getD l (rowWords * g + w) 0) (wordOf n (p g)) (λ w. h g w lt)
 
 pub stretches-words : (s : Session) (odcs sets : List ℕ) (m : ℕ)
     → Held (s .n) m odcs (λ g. odc (currentNet s) (s .n + g))

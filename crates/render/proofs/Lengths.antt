@@ -1,4 +1,4 @@
--- A listing takes at most 1042 bytes. Assumes nothing.
+-- The most bytes that a listing takes. Assumes nothing.
 use mathlib.Core.Path.{_≡_, refl, ap}
 use mathlib.Core.List.{List, _++_}
 use Prim.Native.Nat.{ℕ, zero, suc, _+_, _*_, _≤_}
@@ -9,6 +9,7 @@ use Rattle.text.specs.Fields.{number}
 use Rattle.text.proofs.Digits.{length-number}
 use Rattle.network.specs.declared.Answer.{Answer}
 use Rattle.network.specs.declared.Answer.the-variants.{Done, Refused}
+use Rattle.network.specs.Bounds.{mostGates}
 use Rattle.network.specs.Net.{Net}
 use Rattle.network.specs.DontCares.{cdc, full}
 use Rattle.network.specs.Compatible.{compatibleCount, openTable}
@@ -18,11 +19,11 @@ use Rattle.network.specs.Load.{loadOf}
 use Rattle.network.specs.Calls.{Filled}
 use Rattle.network.proofs.Valid.{net-ok}
 use Rattle.network.proofs.Exchanges.{loaded-length}
-use Rattle.render.specs.Listing.{header, totals, refusedLine, gateRow, rows, setEntries, listingOfNet, listingOf, ListingLength, ListingRoom}
-use Rattle.render.proofs.Laws.{length-row, length-totals}
+use Rattle.render.specs.Listing.{header, totals, refusedLine, gateRow, rows, setEntries, listingOfNet, listingOf, ListingLength, ListingRoom, mostListingBytes}
+use Rattle.render.proofs.Pieces.{length-row, length-totals}
 use Rattle.render.proofs.Shown.{fresh, listing-loaded, listing-refused, into-done}
 
-length-refused : (r : ℕ) → length (refusedLine r) ≤ 1042
+length-refused : (r : ℕ) → length (refusedLine r) ≤ mostListingBytes
 unfolding refusedLine number
 length-refused r = let n = length-number r 0x0A in omega arith
 
@@ -36,7 +37,7 @@ module _ (N : Net) where
       let r = length-row s (cdc N s) (full N s) (openTable N s) (compatibleCount N s) in
       omega arith
 
-  length-net : length (N .gates) ≤ 40 → length (listingOfNet N) ≤ 1042
+  length-net : length (N .gates) ≤ mostGates → length (listingOfNet N) ≤ mostListingBytes
   unfolding listingOfNet header
   length-net few =
       let m = length (N .gates) in
@@ -48,7 +49,7 @@ module _ (N : Net) where
       let q = length-totals f o in
       omega arith
 
-length-for : (bytes : List ℕ) (a : Answer) → loadOf bytes .answer ≡ a → length (listingOf bytes) ≤ 1042
+length-for : (bytes : List ℕ) (a : Answer) → loadOf bytes .answer ≡ a → length (listingOf bytes) ≤ mostListingBytes
 length-for bytes Done e =
     let s = loadOf bytes .session in
     let v = net-ok s (fresh bytes (loadOf bytes) refl e .valid) in
@@ -66,5 +67,5 @@ listing-room bytes buffer h =
     ap (λ (f : Filled). f .answer) (into-done bytes buffer (omega arith))
 
 -- a listing laid at the start of such a buffer ends in it
-pub listing-ends : (bytes : List ℕ) {b b₁ : List ℕ} {r : ℕ} → Laid b 0 (listingOf bytes) b₁ r → 1042 ≤ length b₁ → r ≤ length b₁
+pub listing-ends : (bytes : List ℕ) {b b₁ : List ℕ} {r : ℕ} → Laid b 0 (listingOf bytes) b₁ r → mostListingBytes ≤ length b₁ → r ≤ length b₁
 listing-ends bytes l h = let n = l .behind in let most = listing-length bytes in omega arith

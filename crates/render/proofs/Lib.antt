@@ -1,4 +1,4 @@
-pub mod Laws
+pub mod Pieces
 pub mod Shown
 pub mod Lengths
 pub mod Cases

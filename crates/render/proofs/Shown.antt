@@ -9,6 +9,7 @@ use lib.Dec.{ltb}
 use lib.ListN.{length, getD, take, drop}
 use lib.Seq.{take-append-le, take-length}
 use borrow.Author.Tests.{lt-ltb, le-ltb}
+use Rattle.bits.specs.Bounds.{mostInputs}
 use Rattle.bits.specs.Range.{count}
 use Rattle.bits.specs.Bit.{bit}
 use Rattle.bits.specs.Lists.{overwritten}
@@ -21,6 +22,7 @@ use Rattle.network.specs.declared.Loaded.{Loaded}
 use Rattle.network.specs.declared.Answer.the-variants.{Done, Refused}
 use Rattle.network.specs.declared.Refusal.{Refusal}
 use Rattle.network.specs.declared.Refusal.the-variants.{BufferTooShort}
+use Rattle.network.specs.Bounds.{mostGates, mostEntries}
 use Rattle.network.specs.Net.{Net, patterns}
 use Rattle.network.specs.DontCares.{cdc, full}
 use Rattle.network.specs.Compatible.{compatible, compatibleCount, openTable, openTables, perGate}
@@ -37,7 +39,7 @@ use Rattle.dontcares.specs.Tabled.{Tabled}
 use Rattle.engine.specs.declared.Counted.{Counted}
 use Rattle.engine.specs.Counted.{countedOf}
 use Rattle.render.specs.declared.Columns.{Columns}
-use Rattle.render.specs.Listing.{rows, setEntries, refusedLine, listingOfNet, listingOf, listingInto}
+use Rattle.render.specs.Listing.{rows, setEntries, refusedLine, listingOfNet, listingOf, listingInto, mostListingBytes}
 use Rattle.render.specs.Text.{rowsAt, textOf, Ready}
 
 -- ## The columns of a network
@@ -59,7 +61,7 @@ rows-same N t v (suc g) h =
 set-same : (p q : ℕ → ℕ) (m : ℕ) → ((g : ℕ) → g < m → p g ≡ q g) → setEntries p m ≡ setEntries q m
 set-same p q zero f = refl
 set-same p q (suc m) f =
-    ap₂ (λ (a b : ℕ). a + count 16 (bit b)) (set-same p q m (λ g h. f g (omega arith))) (f m (omega arith))
+    ap₂ (λ (a b : ℕ). a + count mostEntries (bit b)) (set-same p q m (λ g h. f g (omega arith))) (f m (omega arith))
 
 pub shows-text : (N : Net) (t : Columns) → Shows N t → textOf t ≡ listingOfNet N
 unfolding textOf listingOfNet
@@ -77,8 +79,8 @@ current-loaded : (s : Session) → s .current ≡ s .loaded → currentNet s ≡
 unfolding currentNet loadedNet
 current-loaded s e = rw e
 
-per-gate : (m : ℕ) (p : ℕ → ℕ) (g : ℕ) → m ≤ 40 → g < m → getD (perGate m p) g 0 ≡ p g
-per-gate m p g k h = places-at 0 40 (λ i. cond (ltb i m) (p i) 0) g (omega arith) ∙ rw (lt-ltb g m h)
+per-gate : (m : ℕ) (p : ℕ → ℕ) (g : ℕ) → m ≤ mostGates → g < m → getD (perGate m p) g 0 ≡ p g
+per-gate m p g k h = places-at 0 mostGates (λ i. cond (ltb i m) (p i) 0) g (omega arith) ∙ rw (lt-ltb g m h)
 
 open-tables : (N : Net) → openTables N ≡ perGate (length (N .gates)) (λ g. openTable N (N .inputs + g))
 unfolding openTables
@@ -89,7 +91,7 @@ unfolding countsOf
 counts-of s e = rw (state-i s e)
 
 module _ (s : Session) (t : Columns) (valid : stateFault s ≡ Done) (same : s .current ≡ s .loaded) (held : s .open_tables ≡ openTables (loadedNet s))
-    (few : s .m ≤ 40) (en : t .n ≡ s .n) (em : t .m ≡ s .m)
+    (few : s .m ≤ mostGates) (en : t .n ≡ s .n) (em : t .m ≡ s .m)
     (k : Tabled (currentNet s) (t .cdc) (t .full) (s .n) 0 (s .m))
     (eo : t .opens ≡ s .open_tables) (eh : t .hidden ≡ countsOf s .counts) where
   pub shown : Shows (loadedNet s) t
@@ -108,14 +110,14 @@ module _ (s : Session) (t : Columns) (valid : stateFault s ≡ Done) (same : s .
         hidden-at = λ g h. ap (λ (l : List ℕ). getD l g 0) (eh ∙ counts-of s valid) ∙ per-gate (s .m) (λ x. compatibleCount N (s .n + x)) g few (omega arith) ∙ rw i;
       }
 
-hidden-few : (N : Net) (s : ℕ) → N .inputs ≤ 10 → compatibleCount N s ≤ 1024
+hidden-few : (N : Net) (s : ℕ) → N .inputs ≤ mostInputs → compatibleCount N s ≤ 1024
 unfolding compatibleCount
 hidden-few N s h =
-    let b : 2 ^ N .inputs ≤ 1024 = pow-le-pow-right {n = 2} (omega arith) {i = N .inputs} {j = 10} h in
+    let b : 2 ^ N .inputs ≤ 1024 = pow-le-pow-right {n = 2} (omega arith) {i = N .inputs} {j = mostInputs} h in
     let c = count-le (patterns N) (compatible N s) in
     omega arith
 
-pub shows-ready : (N : Net) (t : Columns) → Shows N t → t .n ≤ 10 → t .m ≤ 40 → Ready t
+pub shows-ready : (N : Net) (t : Columns) → Shows N t → t .n ≤ mostInputs → t .m ≤ mostGates → Ready t
 shows-ready N t v i m = record {
   inputs = i;
   gates = m;
@@ -151,7 +153,7 @@ module _ (bytes : List ℕ) (c : Counted) (e : c ≡ countedOf bytes) where
       ap {B = List ℕ} (λ (x : Counted). x .counts) e ∙ ap {B = List ℕ} (λ (x : Loaded). countsOf (x .session) .counts) (sym counted-load)
 
 -- the text that was laid at a buffer's start, as a part of it
-pub text-part : {b b₁ : List ℕ} {n : ℕ} (text : List ℕ) → Laid b 0 text b₁ n → length text ≤ 1042 → 1042 ≤ length b → take (n - 0) (drop 0 b₁) ≡ text
+pub text-part : {b b₁ : List ℕ} {n : ℕ} (text : List ℕ) → Laid b 0 text b₁ n → length text ≤ mostListingBytes → mostListingBytes ≤ length b → take (n - 0) (drop 0 b₁) ≡ text
 text-part {b} {b₁} {n} text l few h =
     let k = l .behind in
     let w = laid-start b text b₁ n (omega arith) l in

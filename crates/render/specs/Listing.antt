@@ -1,7 +1,7 @@
 -- The listing of a file, byte by byte: 01, 'The twin network'. Assumes nothing.
 use mathlib.Core.Path.{_≡_}
 use mathlib.Core.List.{List, [], _++_}
-use Prim.Native.Nat.{ℕ, zero, suc, _+_, _≤_}
+use Prim.Native.Nat.{ℕ, zero, suc, _+_, _*_, _≤_}
 use lib.ListN.{length}
 use Rattle.bits.specs.Range.{count}
 use Rattle.bits.specs.Bit.{bit}
@@ -10,6 +10,7 @@ use Rattle.text.specs.Numbers.{hex, decimal}
 use Rattle.network.specs.declared.Session.{Session}
 use Rattle.network.specs.declared.Answer.{Answer}
 use Rattle.network.specs.declared.Answer.the-variants.{Done, Refused}
+use Rattle.network.specs.Bounds.{mostGates, mostEntries}
 use Rattle.network.specs.Net.{Net}
 use Rattle.network.specs.DontCares.{cdc, full}
 use Rattle.network.specs.Compatible.{compatibleCount, openTable}
@@ -48,7 +49,7 @@ rows N (suc g) = rows N g ++ gateRow N (N .inputs + g)
 -- the set entries of the first g gates' tables
 abbrev pub setEntries : (ℕ → ℕ) → ℕ → ℕ
 setEntries table zero = 0
-setEntries table (suc g) = setEntries table g + count 16 (bit (table g))
+setEntries table (suc g) = setEntries table g + count mostEntries (bit (table g))
 
 unfoldable pub listingOfNet : Net → List ℕ
 listingOfNet N =
@@ -69,10 +70,14 @@ listingInto bytes buffer = filled (roomTest (length (listingOf bytes)) buffer) (
 
 -- ## Its length
 
--- 26 bytes of header, 25 for each of 40 gates and 16 of totals are the most
+-- the bytes of the header, of a row for each gate and of the totals, numbers taken with four digits
+abbrev pub mostListingBytes : ℕ
+mostListingBytes = 26 + 25 * mostGates + 16
+
+-- no listing is longer
 abbrev pub ListingLength : Type 0
-ListingLength = (bytes : List ℕ) → length (listingOf bytes) ≤ 1042
+ListingLength = (bytes : List ℕ) → length (listingOf bytes) ≤ mostListingBytes
 
 -- a buffer of that length is never too short
 abbrev pub ListingRoom : Type 0
-ListingRoom = (bytes buffer : List ℕ) → 1042 ≤ length buffer → listingInto bytes buffer .answer ≡ Done
+ListingRoom = (bytes buffer : List ℕ) → mostListingBytes ≤ length buffer → listingInto bytes buffer .answer ≡ Done

@@ -2,14 +2,16 @@
 use mathlib.Core.List.{List, [], _++_}
 use Prim.Native.Nat.{ℕ, zero, suc, _+_, _≤_, _<_}
 use lib.ListN.{getD}
+use Rattle.bits.specs.Bounds.{mostInputs}
 use Rattle.bits.specs.Range.{count}
 use Rattle.bits.specs.Bit.{bit}
+use Rattle.network.specs.Bounds.{mostGates, mostEntries}
 use Rattle.render.specs.declared.Columns.{Columns}
 use Rattle.render.specs.Listing.{header, row, totals, setEntries}
 
 -- the set entries of one table
 unfoldable pub entriesIn : ℕ → ℕ
-entriesIn x = count 16 (bit x)
+entriesIn x = count mostEntries (bit x)
 
 -- the row of gate g
 abbrev pub rowAt : Columns → ℕ → List ℕ
@@ -28,6 +30,6 @@ textOf t = header ++ rowsAt t (t .m) ++ totals (setIn (t .full) (t .m)) (setIn (
 
 -- the bounds of 01, which keep each number below 10000
 pub record Ready (t : Columns) : Type 0 where
-  pub inputs : t .n ≤ 10
-  pub gates : t .m ≤ 40
+  pub inputs : t .n ≤ mostInputs
+  pub gates : t .m ≤ mostGates
   pub few : (g : ℕ) → g < t .m → getD (t .hidden) g 0 < 10000

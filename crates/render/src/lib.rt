@@ -4,25 +4,34 @@ ghost use Prim.Native.Nat.{_+_, _*_, _<_, _≤_};
 ghost use lib.ListN.{length};
 ghost use Rattle.buffer.specs.Laid.{Laid};
 ghost use Rattle.network.specs.declared.Answer.the-variants.{Done};
+ghost use Rattle.network.specs.Bounds.{mostGates, mostEntries};
 ghost use Rattle.network.specs.Compatible.{openTables};
 ghost use Rattle.network.specs.Flat.{loadedNet};
 ghost use Rattle.network.specs.State.{stateFault};
 ghost use Rattle.network.specs.Calls.{countsOf, withLength};
-ghost use Rattle.render.specs.Listing.{header, totals, refusedLine, listingOfNet, listingOf, listingInto};
+ghost use Rattle.render.specs.Listing.{header, totals, refusedLine, listingOfNet, listingOf, listingInto, mostListingBytes};
 ghost use Rattle.render.specs.Text.{entriesIn, rowAt, rowsAt, setIn, textOf, Ready};
 use network::Answer;
+use network::MOST_FILE_BYTES;
+use network::MOST_GATES;
 use network::Refusal;
 use network::Session;
 use network::WriteAnswer;
+
+// The most bytes of a listing: of the header, of a row for each gate, and of the totals, numbers taken with four digits.
+pub const MOST_LISTING_BYTES: usize = 26 + 25 * MOST_GATES + 16;
+
+// The first bytes of a file that decide its listing: one more than a file has that loads.
+pub const DECIDING_BYTES: usize = MOST_FILE_BYTES + 1;
 
 // What the listing of a network shows: n inputs, m gates, and of each gate three tables and the number of hidden patterns.
 pub struct Columns {
     pub n: u64,
     pub m: usize,
-    pub cdc: [u64; 40],
-    pub full: [u64; 40],
-    pub opens: [u64; 40],
-    pub hidden: [u64; 40],
+    pub cdc: [u64; MOST_GATES],
+    pub full: [u64; MOST_GATES],
+    pub opens: [u64; MOST_GATES],
+    pub hidden: [u64; MOST_GATES],
 }
 
 // Each function that puts text does so from place at on, or from the start, and returns the place behind it.
@@ -57,17 +66,17 @@ fn put_rows(buf: &mut [u8], at: usize, t: Columns) -> usize
     a
 }
 
-// The set entries of a table, which has no more than 16.
+// The set entries of a table.
 fn entries_in(x: u64) -> u64
-    ensures { λ r. ⌜ (r ≡ entriesIn x) × (r ≤ 16) ⌝ }
+    ensures { λ r. ⌜ (r ≡ entriesIn x) × (r ≤ mostEntries) ⌝ }
 {
     bits::ones(x % 65536) as u64
 }
 
 // The set entries of the first m tables.
-fn set_in(tables: [u64; 40], m: usize) -> u64
-    requires { ⌜ m ≤ 40 ⌝ }
-    ensures { λ r. ⌜ (r ≡ setIn tables m) × (r ≤ 640) ⌝ }
+fn set_in(tables: [u64; MOST_GATES], m: usize) -> u64
+    requires { ⌜ m ≤ mostGates ⌝ }
+    ensures { λ r. ⌜ (r ≡ setIn tables m) × (r ≤ mostGates * mostEntries) ⌝ }
 {
     let mut sum: u64 = 0;
     let mut g: usize = 0;
@@ -94,9 +103,9 @@ fn put_header(buf: &mut [u8]) -> usize
     buffer::copy(buf, 0, b"gate cdc full open hidden\n")
 }
 
-// The whole text; 1042 bytes are enough for a header, 40 rows and the totals with numbers of 4 digits.
+// The whole text.
 fn put_text(buf: &mut [u8], t: Columns) -> usize
-    requires { ⌜ Ready t × (1042 ≤ length (now buf)) ⌝ }
+    requires { ⌜ Ready t × (mostListingBytes ≤ length (now buf)) ⌝ }
     ensures { λ r. ⌜ Laid (now (buf .entry)) 0 (textOf t) (now (buf .exit)) r ⌝ }
 {
     let m = t.m;
@@ -110,7 +119,7 @@ fn put_text(buf: &mut [u8], t: Columns) -> usize
 }
 
 // What a session shows once it is loaded, with the counts of its gates.
-fn columns_of(s: Session, hidden: [u64; 40]) -> Columns
+fn columns_of(s: Session, hidden: [u64; MOST_GATES]) -> Columns
     requires { ⌜ (stateFault s ≡ Done) × (s .current ≡ s .loaded) × (s .open_tables ≡ openTables (loadedNet s)) ⌝ }
     requires { ⌜ hidden ≡ countsOf s .counts ⌝ }
     ensures { λ r. ⌜ Ready r × (textOf r ≡ listingOfNet (loadedNet s)) ⌝ }
@@ -139,7 +148,7 @@ fn put_refusal(buf: &mut [u8], k: u64) -> usize
 
 // The listing of any bytes, in a buffer that is long enough for each.
 pub fn put_listing(buf: &mut [u8], bytes: &[u8]) -> usize
-    requires { ⌜ 1042 ≤ length (now buf) ⌝ }
+    requires { ⌜ mostListingBytes ≤ length (now buf) ⌝ }
     ensures { λ r. ⌜ Laid (now (buf .entry)) 0 (listingOf (now (bytes .entry))) (now (buf .exit)) r ⌝ }
 {
     let c = engine::load_counted(bytes);
@@ -158,7 +167,7 @@ pub fn put_listing(buf: &mut [u8], bytes: &[u8]) -> usize
 pub fn listing(bytes: &[u8], buf: &mut [u8]) -> WriteAnswer
     ensures { λ r. ⌜ record { answer = r; buffer = now (buf .exit) } ≡ withLength (length (listingOf (now (bytes .entry)))) (listingInto (now (bytes .entry)) (now (buf .entry))) ⌝ }
 {
-    let mut text = [0u8; 1042];
+    let mut text = [0u8; MOST_LISTING_BYTES];
     let n = put_listing(&mut text, bytes);
     if buf.len() < n {
         return WriteAnswer::Refused(Refusal::BufferTooShort);

@@ -1,5 +1,5 @@
--- What is written and what loads is at most 519 bytes long: 5 for the header, 130 for the excluded set, 9 for each of 40 gates
--- and 3 for each of 8 outputs. Assumes nothing.
+-- How long what is written and what loads is at the most: 5 bytes for the header, 2 and the set for the excluded record, the longest
+-- record for each gate and 3 for each output. Assumes nothing.
 use mathlib.Core.Path.{_≡_, refl}
 use mathlib.Core.List.{List, _++_}
 use Prim.Native.Nat.{ℕ, zero, suc, _+_, _*_, _≤_, _<_}
@@ -8,10 +8,12 @@ use native.Mathlib.Nat.{min-le-left}
 use lib.Dec.{leb}
 use lib.ListN.{length, getD, drop, length-append, length-take, length-drop}
 use borrow.Author.Tests.{leb-false}
+use Rattle.bits.specs.Bounds.{mostInputs, gatePlaces}
 use Rattle.bits.specs.Lists.{bytesIn}
 use Rattle.bits.proofs.Ranges.{by-cases, length-places}
 use Rattle.network.specs.declared.Session.{Session}
 use Rattle.network.specs.declared.Refusal.the-variants.{TrailingBytes}
+use Rattle.network.specs.Bounds.{mostGates, mostOutputs, mostFanins, mostSetBytes, mostGateBytes, mostFileBytes}
 use Rattle.network.specs.Tests.{refuseIf}
 use Rattle.network.specs.State.{arityOf, faninsOf}
 use Rattle.network.specs.Load.{started, loadDone, withOutput, outputTests, outputRecord, readOutputs, faninsIn, afterFanins, tableIn, withGate, gateTests, gateRecord, readGates, setBytes, excludedIn, withExcluded, isExcluded, excludedRecord, readBody, headerTests, headerRecord, readOf}
@@ -25,14 +27,14 @@ use Rattle.roundtrip.proofs.WordsRead.{set-bytes-most}
 -- ## Written
 
 module _ (s : Session) where
-  gate-length : (g : ℕ) → arityOf s g ≤ 4 → length (gateBytes s g) ≤ 9
+  gate-length : (g : ℕ) → arityOf s g ≤ mostFanins → length (gateBytes s g) ≤ mostGateBytes
   unfolding gateBytes
   gate-length g h =
       let n = length-append (faninsOf s g) (bytesIn 2 (getD (s .current) g 0)) in
-      let k = length-places (arityOf s g) (λ r. getD (s .fanins) (6 * g + r) 0) in
+      let k = length-places (arityOf s g) (λ r. getD (s .fanins) (gatePlaces * g + r) 0) in
       omega arith
 
-  gates-length : (c g : ℕ) → ((j : ℕ) → j < g + c → arityOf s j ≤ 4) → length (gatesBytes s c g) ≤ 9 * c
+  gates-length : (c g : ℕ) → ((j : ℕ) → j < g + c → arityOf s j ≤ mostFanins) → length (gatesBytes s c g) ≤ mostGateBytes * c
   gates-length zero g few = omega arith
   gates-length (suc c) g few =
       let a = gate-length g (few g (omega arith)) in
@@ -59,11 +61,11 @@ written-length s h =
     let ex = excludedBytes s in
     let gs = gatesBytes s (s .m) 0 in
     let os = outputsBytes s (s .p) 0 in
-    let z = set-bytes-most (s .n) (count-e 10 (s .n) (v .inputs) .1) in
-    let mb = count-e 40 (s .m) (v .gates) in
-    let pb = count-e 8 (s .p) (v .outs) in
+    let z = set-bytes-most (s .n) (count-e mostInputs (s .n) (v .inputs) .1) in
+    let mb = count-e mostGates (s .m) (v .gates) in
+    let pb = count-e mostOutputs (s .p) (v .outs) in
     let a = excluded-length s in
-    let b = gates-length s (s .m) 0 (λ j l. count-e 4 (arityOf s j) (v .gate j (omega arith) .arity-fine) .1) in
+    let b = gates-length s (s .m) 0 (λ j l. count-e mostFanins (arityOf s j) (v .gate j (omega arith) .arity-fine) .1) in
     let c = outputs-length s (s .p) 0 in
     let d = length-append ex (gs ++ os) in
     let e = length-append gs os in
@@ -86,21 +88,21 @@ module _ (u : Session) where
       let d = length-drop 3 rest in
       omega arith
 
-  gates-end : (c g : ℕ) (t : Session) (rest : List ℕ) → readGates c g t rest ≡ loadDone u → length rest ≤ 9 * c + 3 * t .p
+  gates-end : (c g : ℕ) (t : Session) (rest : List ℕ) → readGates c g t rest ≡ loadDone u → length rest ≤ mostGateBytes * c + 3 * t .p
   unfolding readGates gateRecord
   gates-end zero g t rest h = let e = outputs-end (t .p) 0 t rest h in omega arith
   gates-end (suc c) g t rest h =
       let k = getD rest 2 0 in
       let t' = withGate t g k (faninsIn rest) (tableIn rest) in
       let w = went (gateRecord (t .n + g) rest) (readGates c (g + 1) t' (drop 2 (afterFanins rest))) u h in
-      let b = count-e 4 k (clear-e (gateTests (t .n + g) rest) (w .0) .1 .1 .0) in
+      let b = count-e mostFanins k (clear-e (gateTests (t .n + g) rest) (w .0) .1 .1 .0) in
       let r = gates-end c (g + 1) t' (drop 2 (afterFanins rest)) (w .1) in
       let d = length-drop 2 (afterFanins rest) in
       let e = length-drop k (drop 3 rest) in
       let f = length-drop 3 rest in
       omega arith
 
-  body-end : (t : Session) (rest : List ℕ) → t .n ≤ 10 → readBody t rest ≡ loadDone u → length rest ≤ 130 + 9 * t .m + 3 * t .p
+  body-end : (t : Session) (rest : List ℕ) → t .n ≤ mostInputs → readBody t rest ≡ loadDone u → length rest ≤ 2 + mostSetBytes + mostGateBytes * t .m + 3 * t .p
   unfolding readBody
   body-end t rest few h =
       let z = setBytes (t .n) in
@@ -115,15 +117,15 @@ module _ (u : Session) where
       omega arith)
       (λ e. let r = gates-end (t .m) 0 t rest (rw e at h) in omega arith)
 
-  read-end : (bytes : List ℕ) → readOf bytes ≡ loadDone u → length bytes ≤ 519
+  read-end : (bytes : List ℕ) → readOf bytes ≡ loadDone u → length bytes ≤ mostFileBytes
   unfolding readOf headerRecord
   read-end bytes h =
       let t = started (getD bytes 2 0) (getD bytes 3 0) (getD bytes 4 0) in
       let w = went (headerRecord bytes) (readBody t (drop 5 bytes)) u h in
       let q = clear-e (headerTests bytes) (w .0) .1 .1 in
-      let a = count-e 10 (getD bytes 2 0) (q .0) in
-      let b = count-e 40 (getD bytes 3 0) (q .1 .0) in
-      let c = count-e 8 (getD bytes 4 0) (q .1 .1 .0) in
+      let a = count-e mostInputs (getD bytes 2 0) (q .0) in
+      let b = count-e mostGates (getD bytes 3 0) (q .1 .0) in
+      let c = count-e mostOutputs (getD bytes 4 0) (q .1 .1 .0) in
       let r = body-end t (drop 5 bytes) (a .1) (w .1) in
       let d = length-drop 5 bytes in
       omega arith

@@ -1,5 +1,5 @@
 pub mod WordsRead
-pub mod Laid
+pub mod Rebuilt
 pub mod GatesRead
 pub mod OutputsRead
 pub mod RoundTrip

@@ -11,7 +11,7 @@ use Rattle.network.specs.State.{outputFault}
 use Rattle.network.specs.Load.{outputTests, outputRecord, readOutputs}
 use Rattle.network.specs.Write.{outputBytes}
 use Rattle.network.proofs.TestLaws.{clear-i, short-i, mark-i}
-use Rattle.roundtrip.proofs.Laid.{layOutput}
+use Rattle.roundtrip.proofs.Rebuilt.{rebuildOutput}
 
 abbrev rest-of : ℕ → List ℕ → List ℕ
 rest-of x tail = 0x4E ∷ 0x4F ∷ x ∷ tail
@@ -23,6 +23,6 @@ record-back signals x tail h =
     (mark-i 0x4E4F (rest-of x tail) (omega arith) refl, (short-i 3 (rest-of x tail) (omega arith), (h, tt)))
 
 pub output-back : (s t : Session) (i c : ℕ) (tail : List ℕ) → outputFault s i ≡ Done → t .n ≡ s .n → t .m ≡ s .m
-    → readOutputs (suc c) i t (outputBytes s i ++ tail) ≡ readOutputs c (i + 1) (layOutput s t i) tail
+    → readOutputs (suc c) i t (outputBytes s i ++ tail) ≡ readOutputs c (i + 1) (rebuildOutput s t i) tail
 unfolding readOutputs outputBytes
 output-back s t i c tail h e f = rw (e, f, record-back (s .n + s .m) (getD (s .outputs) i 0) tail h)

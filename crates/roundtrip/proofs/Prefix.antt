@@ -1,4 +1,4 @@
--- The first 520 bytes decide what load answers: each record reads alike from a list and from enough of its front. Assumes nothing.
+-- The first mostFileBytes + 1 bytes decide what load answers: each record reads alike from a list and from enough of its front. Assumes nothing.
 use mathlib.Core.Path.{_≡_, refl, sym, ap, _∙_}
 use mathlib.Core.List.{List, [], _∷_}
 use Prim.Native.Nat.{ℕ, zero, suc, _+_, _*_, _-_, _≤_, _<_}
@@ -8,9 +8,11 @@ use lib.Dec.{leb, ltb}
 use lib.ListN.{length, getD, take, drop}
 use lib.Seq.{take-all, take-nil, take-take, getD-take, length-take-le}
 use borrow.Author.Tests.{le-ltb, le-leb}
+use Rattle.bits.specs.Bounds.{mostInputs}
 use Rattle.network.specs.declared.Session.{Session}
 use Rattle.network.specs.declared.Answer.{Answer}
 use Rattle.network.specs.declared.Answer.the-variants.{Done, Refused}
+use Rattle.network.specs.Bounds.{mostGates, mostOutputs, mostFanins, mostGateBytes, mostFileBytes}
 use Rattle.network.specs.Tests.{orElse, lengthTest, markTest, countTest}
 use Rattle.network.specs.Load.{started, withOutput, outputRecord, readOutputs, faninsIn, afterFanins, tableIn, withGate, gateTests, gateRecord, readGates, setBytes, excludedIn, withExcluded, isExcluded, excludedRecord, readBody, headerTests, headerRecord, readOf, loadOf}
 use Rattle.network.proofs.TestLaws.{clear-e, count-e, onward-ext}
@@ -79,18 +81,18 @@ or-ext Done b b' f = f refl
 or-ext (Refused r) b b' f = refl
 
 -- N takes in the whole record, which is up to 9 bytes long
-module _ (N : ℕ) (l : List ℕ) (three : 3 ≤ N) (long : getD l 2 0 ≤ 4 → getD l 2 0 + 5 ≤ N) where
+module _ (N : ℕ) (l : List ℕ) (three : 3 ≤ N) (long : getD l 2 0 ≤ mostFanins → getD l 2 0 + 5 ≤ N) where
   pub gate-cut : (limit : ℕ) → gateRecord limit (take N l) ≡ gateRecord limit l
   unfolding gateRecord
   gate-cut limit =
       let k = getD l 2 0 in
       rw (mark-cut N l 0x4E47 (omega arith), ltb-cut N l 3 (omega arith), getD-take N l 2 0 (omega arith))
-      (ap (λ (x : Answer). orElse (markTest 0x4E47 l) (orElse (lengthTest 3 l) x)) (or-ext (countTest 4 k) _ _ (λ e.
-      let b = long (count-e 4 k e .1) in
+      (ap (λ (x : Answer). orElse (markTest 0x4E47 l) (orElse (lengthTest 3 l) x)) (or-ext (countTest mostFanins k) _ _ (λ e.
+      let b = long (count-e mostFanins k e .1) in
       rw (drop-take 3 N l, ltb-cut (N - 3) (drop 3 l) (k + 2) (omega arith), take-take k (N - 3) (drop 3 l) (omega arith), inner-cut (N - 3) k 2 (drop 3 l) (omega arith)))))
 
   -- the gate's stores, and what is left behind it
-  pub gate-next : (t : Session) (g c : ℕ) → getD l 2 0 ≤ 4
+  pub gate-next : (t : Session) (g c : ℕ) → getD l 2 0 ≤ mostFanins
       → readGates c (g + 1) (withGate t g (getD (take N l) 2 0) (faninsIn (take N l)) (tableIn (take N l))) (drop 2 (afterFanins (take N l)))
       ≡ readGates c (g + 1) (withGate t g (getD l 2 0) (faninsIn l) (tableIn l)) (take (N - 3 - getD l 2 0 - 2) (drop 2 (afterFanins l)))
   gate-next t g c h =
@@ -113,19 +115,19 @@ outputs-cut (suc c) N i t l h =
     (onward-ext (outputRecord (t .n + t .m) l) _ _ (λ e.
     output-next c N i t l (omega arith) ∙ outputs-cut c (N - 3) (i + 1) (withOutput t i (getD l 2 0)) (drop 3 l) (omega arith)))
 
-gates-cut : (c N g : ℕ) (t : Session) (l : List ℕ) → 9 * c + 3 * t .p + 1 ≤ N → readGates c g t (take N l) ≡ readGates c g t l
+gates-cut : (c N g : ℕ) (t : Session) (l : List ℕ) → mostGateBytes * c + 3 * t .p + 1 ≤ N → readGates c g t (take N l) ≡ readGates c g t l
 unfolding readGates gateRecord
 gates-cut zero N g t l h = outputs-cut (t .p) N 0 t l (omega arith)
 gates-cut (suc c) N g t l h =
-    let long : getD l 2 0 ≤ 4 → getD l 2 0 + 5 ≤ N = λ b. omega arith in
+    let long : getD l 2 0 ≤ mostFanins → getD l 2 0 + 5 ≤ N = λ b. omega arith in
     rw (gate-cut N l (omega arith) long (t .n + g))
     (onward-ext (gateRecord (t .n + g) l) _ _ (λ e.
     let k = getD l 2 0 in
-    let b = count-e 4 k (clear-e (gateTests (t .n + g) l) e .1 .1 .0) in
+    let b = count-e mostFanins k (clear-e (gateTests (t .n + g) l) e .1 .1 .0) in
     gate-next N l (omega arith) long t g c (b .1)
     ∙ gates-cut c (N - 3 - k - 2) (g + 1) (withGate t g k (faninsIn l) (tableIn l)) (drop 2 (afterFanins l)) (omega arith)))
 
-body-cut : (N : ℕ) (t : Session) (l : List ℕ) → t .n ≤ 10 → 9 * t .m + 3 * t .p + 131 ≤ N → readBody t (take N l) ≡ readBody t l
+body-cut : (N : ℕ) (t : Session) (l : List ℕ) → t .n ≤ mostInputs → mostGateBytes * t .m + 3 * t .p + 131 ≤ N → readBody t (take N l) ≡ readBody t l
 unfolding readBody
 body-cut N t l few h =
     let z = setBytes (t .n) in
@@ -133,21 +135,21 @@ body-cut N t l few h =
     rw (excluded-cut N l (omega arith), set-cut N (t .n) l (omega arith), set-next N (t .m) t l (omega arith))
     (rw (gates-cut (t .m) (N - 2 - z) 0 (withExcluded t (excludedIn (t .n) l)) (drop z (drop 2 l)) (omega arith), gates-cut (t .m) N 0 t l (omega arith)))
 
-read-cut : (N : ℕ) (l : List ℕ) → 520 ≤ N → readOf (take N l) ≡ readOf l
+read-cut : (N : ℕ) (l : List ℕ) → mostFileBytes + 1 ≤ N → readOf (take N l) ≡ readOf l
 unfolding readOf headerRecord
 read-cut N l h =
     let t = started (getD l 2 0) (getD l 3 0) (getD l 4 0) in
     rw (header-cut N l (omega arith), getD-take N l 2 0 (omega arith), getD-take N l 3 0 (omega arith), getD-take N l 4 0 (omega arith), drop-take 5 N l)
     (onward-ext (headerRecord l) _ _ (λ e.
     let q = clear-e (headerTests l) e .1 .1 in
-    let a = count-e 10 (getD l 2 0) (q .0) in
-    let b = count-e 40 (getD l 3 0) (q .1 .0) in
-    let c = count-e 8 (getD l 4 0) (q .1 .1 .0) in
+    let a = count-e mostInputs (getD l 2 0) (q .0) in
+    let b = count-e mostGates (getD l 3 0) (q .1 .0) in
+    let c = count-e mostOutputs (getD l 4 0) (q .1 .1 .0) in
     body-cut (N - 5) t (drop 5 l) (a .1) (omega arith)))
 
-load-cut : (N : ℕ) (l : List ℕ) → 520 ≤ N → loadOf (take N l) ≡ loadOf l
+load-cut : (N : ℕ) (l : List ℕ) → mostFileBytes + 1 ≤ N → loadOf (take N l) ≡ loadOf l
 unfolding loadOf
 load-cut N l h = rw (read-cut N l h)
 
 pub prefix : Prefix
-prefix bytes = load-cut 520 bytes (omega arith)
+prefix bytes = load-cut (mostFileBytes + 1) bytes (omega arith)

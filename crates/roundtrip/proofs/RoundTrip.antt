@@ -7,9 +7,11 @@ use native.Mathlib.Omega.{arith}
 use lib.ListN.{length, take, length-append}
 use lib.Seq.{take-at, drop-at, length-take-le}
 use borrow.Author.Tests.{le-leb}
+use Rattle.bits.specs.Bounds.{mostInputs, gatePlaces}
 use Rattle.network.specs.declared.Session.{Session}
 use Rattle.network.specs.declared.Loaded.{Loaded}
 use Rattle.network.specs.declared.Answer.the-variants.{Done}
+use Rattle.network.specs.Bounds.{mostGates, mostOutputs, mostFanins, excludedWords}
 use Rattle.network.specs.Flat.{loadedNet, currentNet}
 use Rattle.network.specs.Tests.{excludedTest}
 use Rattle.network.specs.State.{arityOf}
@@ -21,7 +23,7 @@ use Rattle.network.proofs.TestLaws.{clear-i, short-i, mark-i, count-e}
 use Rattle.network.proofs.Valid.{Valid, valid-e}
 use Rattle.network.proofs.Reached.{load-back, opened-loaded, opened-current}
 use Rattle.roundtrip.specs.RoundTrip.{Returns, RoundTrip}
-use Rattle.roundtrip.proofs.Laid.{Laid, layGate, layOutput, lay-gate, lay-output, same-net}
+use Rattle.roundtrip.proofs.Rebuilt.{Rebuilt, rebuildGate, rebuildOutput, rebuild-gate, rebuild-output, same-net}
 use Rattle.roundtrip.proofs.WordsRead.{within, holds, words-back, zeros, set-bytes-most}
 use Rattle.roundtrip.proofs.GatesRead.{gate-back}
 use Rattle.roundtrip.proofs.OutputsRead.{output-back}
@@ -32,7 +34,7 @@ unfolding gateBytes
 no-set s zero tail h = let z : ⊥ = omega arith in absurd z
 no-set s (suc c) tail h = rw (le-leb 2 (length (gateBytes s 0 ++ gatesBytes s c 1 ++ tail)) (omega arith))
 
-set-record : (n : ℕ) (xs ws : List ℕ) → setBytes n ≤ length xs → wordsFrom 16 (take (setBytes n) xs) ≡ ws → excludedTest n ws ≡ Done
+set-record : (n : ℕ) (xs ws : List ℕ) → setBytes n ≤ length xs → wordsFrom excludedWords (take (setBytes n) xs) ≡ ws → excludedTest n ws ≡ Done
     → excludedRecord n (0x4E ∷ 0x58 ∷ xs) ≡ Done
 unfolding excludedRecord
 set-record n xs ws l e h = clear-i (excludedTests n (0x4E ∷ 0x58 ∷ xs)) (short-i (setBytes n) xs l, (rw e h, tt))
@@ -63,12 +65,12 @@ module _ (s : Session) (shape : Shaped s) (v : Valid s) where
       let n = s .n in
       let ws = s .excluded in
       let z = setBytes n in
-      let b = count-e 10 n (v .inputs) in
+      let b = count-e mostInputs n (v .inputs) in
       let most = set-bytes-most n (b .1) in
       let len : length (take z (wordBytes ws)) ≡ z = length-take-le z (wordBytes ws) (rw (length-words ws, shape .words) (omega arith)) in
       let tk = take-at (take z (wordBytes ws)) rest z len in
       let dr = drop-at (take z (wordBytes ws)) rest z len in
-      let wd : wordsFrom 16 (take z (wordBytes ws)) ≡ ws =
+      let wd : wordsFrom excludedWords (take z (wordBytes ws)) ≡ ws =
       rw (shape .words) at (words-back ws (2 ^ n) z (within n ws (shape .words) (shape .wide) (v .set-fine)) (holds n)) in
       let all = 0x4E ∷ 0x58 ∷ take z (wordBytes ws) ++ rest in
       let long : z ≤ length (take z (wordBytes ws) ++ rest) = simp length-append (omega arith) in
@@ -80,39 +82,39 @@ module _ (s : Session) (shape : Shaped s) (v : Valid s) where
   read-back =
       let rest = gatesBytes s (s .m) 0 ++ outputsBytes s (s .p) 0 in
       let ok = header-back (excludedBytes s ++ rest) in
-      rw ok (body-back (allZero (s .excluded)) rest refl (no-set s (s .m) (outputsBytes s (s .p) 0) (count-e 40 (s .m) (v .gates) .0)))
+      rw ok (body-back (allZero (s .excluded)) rest refl (no-set s (s .m) (outputsBytes s (s .p) 0) (count-e mostGates (s .m) (v .gates) .0)))
 
   -- ## Gates and outputs
 
   -- a load that gives all of s
   abbrev Got : Loaded → Type 0
-  Got l = (t : Session) × (l ≡ loadDone t) × Laid s t (s .m) (s .p)
+  Got l = (t : Session) × (l ≡ loadDone t) × Rebuilt s t (s .m) (s .p)
 
   got : {l l' : Loaded} → l ≡ l' → Got l' → Got l
   got e g = (g .0, e ∙ g .1, g .2)
 
-  outputs-back : (c i : ℕ) (t : Session) → i + c ≡ s .p → Laid s t (s .m) i → Got (readOutputs c i t (outputsBytes s c i))
+  outputs-back : (c i : ℕ) (t : Session) → i + c ≡ s .p → Rebuilt s t (s .m) i → Got (readOutputs c i t (outputsBytes s c i))
   unfolding readOutputs
   outputs-back zero i t e l = let q : i ≡ s .p = omega arith in (t, refl, rw q at l)
   outputs-back (suc c) i t e l =
-      let b = count-e 8 (s .p) (v .outs) in
+      let b = count-e mostOutputs (s .p) (v .outs) in
       got (output-back s t i c (outputsBytes s c (i + 1)) (v .output i (omega arith)) (l .n-same) (l .m-same))
-      (outputs-back c (i + 1) (layOutput s t i) (omega arith) (lay-output s t (s .m) i (omega arith) l))
+      (outputs-back c (i + 1) (rebuildOutput s t i) (omega arith) (rebuild-output s t (s .m) i (omega arith) l))
 
-  few : (j : ℕ) → j < s .m → arityOf s j ≤ 6
-  few j h = let a = count-e 4 (arityOf s j) (v .gate j h .arity-fine) in omega arith
+  few : (j : ℕ) → j < s .m → arityOf s j ≤ gatePlaces
+  few j h = let a = count-e mostFanins (arityOf s j) (v .gate j h .arity-fine) in omega arith
 
-  gates-back : (c g : ℕ) (t : Session) → g + c ≡ s .m → Laid s t g 0 → Got (readGates c g t (gatesBytes s c g ++ outputsBytes s (s .p) 0))
+  gates-back : (c g : ℕ) (t : Session) → g + c ≡ s .m → Rebuilt s t g 0 → Got (readGates c g t (gatesBytes s c g ++ outputsBytes s (s .p) 0))
   unfolding readGates
   gates-back zero g t e l =
       let q : g ≡ s .m = omega arith in
       got (ap (λ (p : ℕ). readOutputs p 0 t (outputsBytes s (s .p) 0)) (l .p-same)) (outputs-back (s .p) 0 t (omega arith) (rw q at l))
   gates-back (suc c) g t e l =
-      let b = count-e 40 (s .m) (v .gates) in
+      let b = count-e mostGates (s .m) (v .gates) in
       got
       (ap (readGates (suc c) g t) (append-assoc (gateBytes s g) (gatesBytes s c (g + 1)) (outputsBytes s (s .p) 0))
       ∙ gate-back s t g c (gatesBytes s c (g + 1) ++ outputsBytes s (s .p) 0) (v .gate g (omega arith)) (l .n-same))
-      (gates-back c (g + 1) (layGate s t g) (omega arith) (lay-gate s t g (omega arith) (λ j h. few j (omega arith)) l))
+      (gates-back c (g + 1) (rebuildGate s t g) (omega arith) (rebuild-gate s t g (omega arith) (λ j h. few j (omega arith)) l))
 
   back : Got (readOf (bytesOf s))
   back =
@@ -121,7 +123,7 @@ module _ (s : Session) (shape : Shaped s) (v : Valid s) where
         m-same = refl;
         p-same = refl;
         excluded-same = refl;
-        room = record { arities = refl; slots = refl; loads = refl; currents = refl; outs = refl };
+        lengths = record { arities = refl; slots = refl; loads = refl; currents = refl; outs = refl };
         gate = λ j h. let z : ⊥ = omega arith in absurd z;
         output = λ j h. let z : ⊥ = omega arith in absurd z;
       }))

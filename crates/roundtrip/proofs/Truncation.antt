@@ -14,12 +14,13 @@ use Rattle.network.specs.declared.Session.{Session}
 use Rattle.network.specs.declared.Refusal.the-variants.{Truncated}
 use Rattle.network.specs.declared.Answer.{Answer}
 use Rattle.network.specs.declared.Answer.the-variants.{Done, Refused}
+use Rattle.network.specs.Bounds.{mostGates}
 use Rattle.network.specs.Tests.{first, lengthTest, markTest}
 use Rattle.network.specs.Load.{started, loadDone, loadRefused, withOutput, outputTests, outputRecord, readOutputs, faninsIn, afterFanins, tableIn, withGate, gateTests, gateRecord, readGates, setBytes, excludedIn, withExcluded, isExcluded, excludedRecord, readBody, headerTests, headerRecord, readOf, loadOf}
 use Rattle.network.proofs.TestLaws.{clear-e, count-e, went}
 use Rattle.network.proofs.Reached.{load-read}
 use Rattle.roundtrip.specs.RoundTrip.{Truncation}
-use Rattle.netfile.proofs.Records.{whole-gate}
+use Rattle.netread.proofs.Records.{whole-gate}
 use Rattle.roundtrip.proofs.Lengths.{outputs-end}
 use Rattle.roundtrip.proofs.Prefix.{drop-take, ltb-cut, mark-cut, output-cut, excluded-cut, header-cut, set-cut, set-next, gate-cut, gate-next, output-next}
 
@@ -135,7 +136,7 @@ module _ (u : Session) where
   read-truncated N l h b =
       let t = started (getD l 2 0) (getD l 3 0) (getD l 4 0) in
       let w = went (headerRecord l) (readBody t (drop 5 l)) u h in
-      let some = count-e 40 (getD l 3 0) (clear-e (headerTests l) (w .0) .1 .1 .1 .0) in
+      let some = count-e mostGates (getD l 3 0) (clear-e (headerTests l) (w .0) .1 .1 .1 .0) in
       before N 5 (λ a. rw (cut-header N l b (w .0) a))
       (λ a.
       rw (header-cut N l a, w .0, getD-take N l 2 0 (omega arith), getD-take N l 3 0 (omega arith), getD-take N l 4 0 (omega arith), drop-take 5 N l)

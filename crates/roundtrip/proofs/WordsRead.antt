@@ -11,10 +11,12 @@ use lib.ListN.{length, getD, take, replicate, drop-of-length-le, List·getD-eq-d
 use lib.Pow.{pow-pos}
 use lib.Seq.{take-all, take-append-add}
 use borrow.Author.Tests.{le-ltb, eqb-true}
+use Rattle.bits.specs.Bounds.{mostInputs}
 use Rattle.bits.specs.Lists.{bytesIn}
 use Rattle.bits.proofs.Ranges.{and-l, and-r}
 use Rattle.bits.proofs.Bytes.{length-bytes, take-bytes}
 use Rattle.network.specs.declared.Answer.the-variants.{Done}
+use Rattle.network.specs.Bounds.{excludedWords, mostSetBytes}
 use Rattle.network.specs.Tests.{widthTest, excludedTest}
 use Rattle.network.specs.Load.{littleEndian, wordsFrom, setBytes}
 use Rattle.network.specs.Write.{wordBytes, allZero}
@@ -48,12 +50,12 @@ abbrev pub Within : ℕ → List ℕ → Type 0
 Within bits ws = (i : ℕ) → (getD ws i 0 < 2 ^ (bits - 64 * i)) × (getD ws i 0 < 2 ^ 64)
 
 -- a session without a fault has its excluded set within its patterns
-pub within : (n : ℕ) (ws : List ℕ) → length ws ≡ 16 → ((w : ℕ) → getD ws w 0 < 2 ^ 64) → excludedTest n ws ≡ Done → Within (2 ^ n) ws
+pub within : (n : ℕ) (ws : List ℕ) → length ws ≡ excludedWords → ((w : ℕ) → getD ws w 0 < 2 ^ 64) → excludedTest n ws ≡ Done → Within (2 ^ n) ws
 unfolding excludedTest
-within n ws e wide h i = (go (decLt i 16), wide i)
+within n ws e wide h i = (go (decLt i excludedWords), wide i)
   where
-    go : Dec (i < 16) → getD ws i 0 < 2 ^ (2 ^ n - 64 * i)
-    go (yes l) = width-e (2 ^ n - 64 * i) (getD ws i 0) (each-e (λ w. widthTest (2 ^ n - 64 * w) (getD ws w 0)) 16 h i l)
+    go : Dec (i < excludedWords) → getD ws i 0 < 2 ^ (2 ^ n - 64 * i)
+    go (yes l) = width-e (2 ^ n - 64 * i) (getD ws i 0) (each-e (λ w. widthTest (2 ^ n - 64 * w) (getD ws w 0)) excludedWords h i l)
     go (no l) = rw (List·getD-eq-default ws 0 {n = i} (omega arith)) (pow-pos (2 ^ n - 64 * i))
 
 -- z bytes hold so many bits
@@ -79,12 +81,12 @@ holds (suc (suc (suc n))) =
     let p : 2 ^ suc (suc (suc n)) ≡ 2 ^ n * 8 = simp pow-suc (omega arith) in
     rw (set-bytes n, p) (omega arith, λ h. omega arith)
 
-pub set-bytes-most : (n : ℕ) → n ≤ 10 → setBytes n ≤ 128
+pub set-bytes-most : (n : ℕ) → n ≤ mostInputs → setBytes n ≤ mostSetBytes
 set-bytes-most zero h = omega arith
 set-bytes-most (suc zero) h = omega arith
 set-bytes-most (suc (suc zero)) h = omega arith
 set-bytes-most (suc (suc (suc n))) h =
-    let b : 2 ^ n ≤ 128 = pow-le-pow-right {n = 2} (omega arith) {i = n} {j = 7} (omega arith) in
+    let b : 2 ^ n ≤ mostSetBytes = pow-le-pow-right {n = 2} (omega arith) {i = n} {j = 7} (omega arith) in
     rw (set-bytes n) b
 
 -- no bits, no bytes

@@ -2,12 +2,13 @@
 -- The same network: the records `Net` are equal, in counts, fan-ins, tables, outputs and excluded set. Assumes nothing.
 use mathlib.Core.Path.{_≡_}
 use mathlib.Core.List.{List}
-use Prim.Native.Nat.{ℕ, _≤_, _<_}
+use Prim.Native.Nat.{ℕ, _+_, _≤_, _<_}
 use lib.ListN.{length, take}
 use Rattle.network.specs.declared.Session.{Session}
 use Rattle.network.specs.declared.Loaded.{Loaded}
 use Rattle.network.specs.declared.Answer.the-variants.{Done}
 use Rattle.network.specs.declared.Refusal.the-variants.{Truncated}
+use Rattle.network.specs.Bounds.{mostFileBytes}
 use Rattle.network.specs.Flat.{loadedNet, currentNet}
 use Rattle.network.specs.Valid.{Shaped}
 use Rattle.network.specs.State.{stateFault}
@@ -24,17 +25,17 @@ pub record Returns (read : List ℕ → Loaded) (s : Session) : Type 0 where
 abbrev pub RoundTrip : Type 0
 RoundTrip = (s : Session) → Shaped s → stateFault s ≡ Done → Returns readOf s × Returns loadOf s
 
--- what is written takes at most 519 bytes
+-- no file that is written is longer than mostFileBytes
 abbrev pub WrittenLength : Type 0
-WrittenLength = (s : Session) → stateFault s ≡ Done → length (bytesOf s) ≤ 519
+WrittenLength = (s : Session) → stateFault s ≡ Done → length (bytesOf s) ≤ mostFileBytes
 
--- no file that loads is longer
+-- nor is one that loads
 abbrev pub LoadedLength : Type 0
-LoadedLength = (bytes : List ℕ) (s : Session) → loadOf bytes ≡ loadDone s → length bytes ≤ 519
+LoadedLength = (bytes : List ℕ) (s : Session) → loadOf bytes ≡ loadDone s → length bytes ≤ mostFileBytes
 
--- the first 520 bytes decide what load answers
+-- the first mostFileBytes + 1 bytes decide what load answers
 abbrev pub Prefix : Type 0
-Prefix = (bytes : List ℕ) → loadOf (take 520 bytes) ≡ loadOf bytes
+Prefix = (bytes : List ℕ) → loadOf (take (mostFileBytes + 1) bytes) ≡ loadOf bytes
 
 -- a file that loads, cut short anywhere, is refused with 1
 abbrev pub Truncation : Type 0

@@ -7,12 +7,14 @@ use native.Mathlib.Decide.{ℕ-discrete}
 use native.Mathlib.Omega.{arith}
 use lib.ListN.{length, getD, set, length-set}
 use lib.Seq.{ext-getD, getD-set-same, getD-set-other}
+use Rattle.bits.specs.Bounds.{rowWords, gatePlaces}
 use Rattle.bits.specs.Bit.{bit, number, column}
 use Rattle.bits.proofs.Ranges.{length-places, places-at, places-ext, map-places, table-ext, column-at}
+use Rattle.network.specs.Bounds.{mostSignals, signalWords}
 use Rattle.network.specs.Net.{entry}
 use Rattle.network.specs.Flat.{faninsAt, gateAt}
 use Rattle.network.specs.Valid.{GateOk}
-use Rattle.network.proofs.Laws.{entry-at}
+use Rattle.network.proofs.FlatGates.{entry-at}
 use Rattle.simulate.specs.Simulated.{wordsAt, valueAt}
 
 -- one word more of a row whose bits are given by p
@@ -27,64 +29,64 @@ filled-bits l p i v h so-far here w b lw lb = go (ℕ-discrete w i)
 
 -- ## One word number of all rows
 
-pub words-at : (rows : List ℕ) (w s : ℕ) → s < 50 → getD (wordsAt rows w) s 0 ≡ getD rows (16 * s + w) 0
+pub words-at : (rows : List ℕ) (w s : ℕ) → s < mostSignals → getD (wordsAt rows w) s 0 ≡ getD rows (rowWords * s + w) 0
 unfolding wordsAt
-words-at rows w s h = places-at 0 50 (λ s. getD rows (16 * s + w) 0) s h
+words-at rows w s h = places-at 0 mostSignals (λ s. getD rows (rowWords * s + w) 0) s h
 
-pub words-long : (rows : List ℕ) (w : ℕ) → length (wordsAt rows w) ≡ 50
+pub words-long : (rows : List ℕ) (w : ℕ) → length (wordsAt rows w) ≡ mostSignals
 unfolding wordsAt
-words-long rows w = length-places 50 (λ s. getD rows (16 * s + w) 0)
+words-long rows w = length-places mostSignals (λ s. getD rows (rowWords * s + w) 0)
 
-module _ (rows : List ℕ) (s i v : ℕ) (hi : i < 16) where
+module _ (rows : List ℕ) (s i v : ℕ) (hi : i < rowWords) where
   -- a store to word i leaves the others
-  pub other-word : (w : ℕ) → w < 16 → (w ≡ i → ⊥) → wordsAt (set rows (16 * s + i) v) w ≡ wordsAt rows w
+  pub other-word : (w : ℕ) → w < rowWords → (w ≡ i → ⊥) → wordsAt (set rows (rowWords * s + i) v) w ≡ wordsAt rows w
   unfolding wordsAt
   other-word w hw n =
-      places-ext 50 (λ q. getD (set rows (16 * s + i) v) (16 * q + w) 0) (λ q. getD rows (16 * q + w) 0)
-      (λ q h. getD-set-other rows (16 * s + i) (16 * q + w) v 0 (λ e. n (omega arith)))
+      places-ext mostSignals (λ q. getD (set rows (rowWords * s + i) v) (rowWords * q + w) 0) (λ q. getD rows (rowWords * q + w) 0)
+      (λ q h. getD-set-other rows (rowWords * s + i) (rowWords * q + w) v 0 (λ e. n (omega arith)))
 
-  pub own-word : s < 50 → length rows ≡ 800 → wordsAt (set rows (16 * s + i) v) i ≡ set (wordsAt rows i) s v
+  pub own-word : s < mostSignals → length rows ≡ signalWords → wordsAt (set rows (rowWords * s + i) v) i ≡ set (wordsAt rows i) s v
   own-word hs long =
-      ext-getD 0 (wordsAt (set rows (16 * s + i) v) i) (set (wordsAt rows i) s v)
-      (words-long (set rows (16 * s + i) v) i ∙ sym (length-set (wordsAt rows i) s v ∙ words-long rows i))
-      (λ q h. at q (omega (arith, words-long (set rows (16 * s + i) v) i)) (ℕ-discrete q s))
+      ext-getD 0 (wordsAt (set rows (rowWords * s + i) v) i) (set (wordsAt rows i) s v)
+      (words-long (set rows (rowWords * s + i) v) i ∙ sym (length-set (wordsAt rows i) s v ∙ words-long rows i))
+      (λ q h. at q (omega (arith, words-long (set rows (rowWords * s + i) v) i)) (ℕ-discrete q s))
     where
-      at : (q : ℕ) → q < 50 → Dec (q ≡ s) → getD (wordsAt (set rows (16 * s + i) v) i) q 0 ≡ getD (set (wordsAt rows i) s v) q 0
+      at : (q : ℕ) → q < mostSignals → Dec (q ≡ s) → getD (wordsAt (set rows (rowWords * s + i) v) i) q 0 ≡ getD (set (wordsAt rows i) s v) q 0
       at q h (yes e) =
-          rw e (words-at (set rows (16 * s + i) v) i s hs ∙ getD-set-same rows (16 * s + i) v 0 (omega arith)
+          rw e (words-at (set rows (rowWords * s + i) v) i s hs ∙ getD-set-same rows (rowWords * s + i) v 0 (omega arith)
           ∙ sym (getD-set-same (wordsAt rows i) s v 0 (omega (arith, words-long rows i))))
       at q h (no n) =
-          words-at (set rows (16 * s + i) v) i q h ∙ getD-set-other rows (16 * s + i) (16 * q + i) v 0 (λ e. n (omega arith))
+          words-at (set rows (rowWords * s + i) v) i q h ∙ getD-set-other rows (rowWords * s + i) (rowWords * q + i) v 0 (λ e. n (omega arith))
           ∙ sym (words-at rows i q h) ∙ sym (getD-set-other (wordsAt rows i) s q v 0 n)
 
 -- row s has its first i words as p says, and the rest as they were
 abbrev pub Stored : (rows₀ rows : List ℕ) (p : ℕ → ℕ) (s i : ℕ) → Type 0
 Stored rows₀ rows p s i =
-    (length rows ≡ 800)
+    (length rows ≡ signalWords)
     × ((w : ℕ) → w < i → wordsAt rows w ≡ set (wordsAt rows₀ w) s (p w))
-    × ((w : ℕ) → i ≤ w → w < 16 → wordsAt rows w ≡ wordsAt rows₀ w)
+    × ((w : ℕ) → i ≤ w → w < rowWords → wordsAt rows w ≡ wordsAt rows₀ w)
 
-pub store-first : (rows : List ℕ) (p : ℕ → ℕ) (s : ℕ) → length rows ≡ 800 → Stored rows rows p s 0
+pub store-first : (rows : List ℕ) (p : ℕ → ℕ) (s : ℕ) → length rows ≡ signalWords → Stored rows rows p s 0
 store-first rows p s h = (h, λ w l. absurd (omega arith), λ w l k. refl)
 
-pub store-step : (rows₀ rows : List ℕ) (p : ℕ → ℕ) (s i v : ℕ) → s < 50 → i < 16 → Stored rows₀ rows p s i → v ≡ p i
-    → Stored rows₀ (set rows (16 * s + i) v) p s (i + 1)
+pub store-step : (rows₀ rows : List ℕ) (p : ℕ → ℕ) (s i v : ℕ) → s < mostSignals → i < rowWords → Stored rows₀ rows p s i → v ≡ p i
+    → Stored rows₀ (set rows (rowWords * s + i) v) p s (i + 1)
 store-step rows₀ rows p s i v hs hi c ev = (
   simp length-set (c .0),
   λ w h. done w h (ℕ-discrete w i),
   λ w h l. other-word rows s i v hi w l (λ e. absurd (omega arith)) ∙ c .2 w (omega arith) l,
 )
   where
-    done : (w : ℕ) → w < i + 1 → Dec (w ≡ i) → wordsAt (set rows (16 * s + i) v) w ≡ set (wordsAt rows₀ w) s (p w)
+    done : (w : ℕ) → w < i + 1 → Dec (w ≡ i) → wordsAt (set rows (rowWords * s + i) v) w ≡ set (wordsAt rows₀ w) s (p w)
     done w h (yes e) = rw e (own-word rows s i v hi hs (c .0) ∙ ap₂ (λ (l : List ℕ) (x : ℕ). set l s x) (c .2 i (omega arith) hi) ev)
     done w h (no n) = other-word rows s i v hi w (omega arith) n ∙ c .1 w (omega arith)
 
 -- the entry that the values of a gate's fan-ins pick
-pub entry-row : (ks fs ts rows ss : List ℕ) (g w b : ℕ) → GateOk ks fs g 50 → ss ≡ faninsAt ks fs g
+pub entry-row : (ks fs ts rows ss : List ℕ) (g w b : ℕ) → GateOk ks fs g mostSignals → ss ≡ faninsAt ks fs g
     → number (map (λ s. valueAt rows s w b) ss) ≡ entry (column (wordsAt rows w) b) (gateAt ks fs ts g)
 entry-row ks fs ts rows ss g w b ok e =
     ap (λ (l : List ℕ). number (map (λ s. valueAt rows s w b) l)) e
-    ∙ ap number (map-places (λ s. valueAt rows s w b) (getD ks g 0) (λ r. getD fs (6 * g + r) 0))
-    ∙ table-ext (getD ks g 0) (λ r. valueAt rows (getD fs (6 * g + r) 0) w b) (λ r. getD (column (wordsAt rows w) b) (getD fs (6 * g + r) 0) false)
-    (λ r h. sym (column-at (wordsAt rows w) b (getD fs (6 * g + r) 0) ∙ ap (λ (x : ℕ). bit x b) (words-at rows w (getD fs (6 * g + r) 0) (ok .early r h))))
+    ∙ ap number (map-places (λ s. valueAt rows s w b) (getD ks g 0) (λ r. getD fs (gatePlaces * g + r) 0))
+    ∙ table-ext (getD ks g 0) (λ r. valueAt rows (getD fs (gatePlaces * g + r) 0) w b) (λ r. getD (column (wordsAt rows w) b) (getD fs (gatePlaces * g + r) 0) false)
+    (λ r h. sym (column-at (wordsAt rows w) b (getD fs (gatePlaces * g + r) 0) ∙ ap (λ (x : ℕ). bit x b) (words-at rows w (getD fs (gatePlaces * g + r) 0) (ok .early r h))))
     ∙ sym (entry-at ks fs ts (column (wordsAt rows w) b) g)

@@ -4,8 +4,10 @@ use mathlib.Core.Bool.{Bool}
 use mathlib.Core.List.{List}
 use Prim.Native.Nat.{ℕ, _+_, _*_, _<_}
 use lib.ListN.{length, getD, take}
+use Rattle.bits.specs.Bounds.{rowWords}
 use Rattle.bits.specs.Range.{places}
 use Rattle.bits.specs.Bit.{bit, column}
+use Rattle.network.specs.Bounds.{mostSignals}
 use Rattle.network.specs.Net.{run}
 use Rattle.network.specs.Flat.{gatesOf}
 
@@ -15,18 +17,18 @@ Inputs words i w = (b : ℕ) → b < 64 → take i (column words b) ≡ places i
 
 -- word s has at bit b the value of signal s at the pattern 64 w + b
 pub record Simulated (ks fs ts words : List ℕ) (n m w : ℕ) : Type 0 where
-  pub long : length words ≡ 50
+  pub long : length words ≡ mostSignals
   pub each : (b : ℕ) → b < 64 → take (n + m) (column words b) ≡ run (places n (bit (w * 64 + b))) (gatesOf ks fs ts m)
 
--- ## Rows: word w of signal s stands at place 16 s + w
+-- ## Rows: word w of signal s stands at place rowWords s + w
 
--- word w of each of the 50 signals
+-- word w of each signal
 unfoldable pub wordsAt : List ℕ → ℕ → List ℕ
-wordsAt rows w = places 50 (λ s. getD rows (16 * s + w) 0)
+wordsAt rows w = places mostSignals (λ s. getD rows (rowWords * s + w) 0)
 
 -- the value of signal s at bit b of word w
 abbrev pub valueAt : List ℕ → ℕ → ℕ → ℕ → Bool
-valueAt rows s w b = bit (getD rows (16 * s + w) 0) b
+valueAt rows s w b = bit (getD rows (rowWords * s + w) 0) b
 
 -- the first `count` words of each signal
 abbrev pub Rows : (ks fs ts rows : List ℕ) (n m count : ℕ) → Type 0

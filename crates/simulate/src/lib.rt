@@ -1,49 +1,76 @@
-// The values of all signals, 64 patterns a word. Row s holds the words of signal s: word w stands at place 16 * s + w.
+// The values of all signals, 64 patterns a word. Row s holds the words of signal s: word w stands at place ROW_WORDS * s + w.
 ghost use mathlib.Core.Path.{_≡_};
 ghost use mathlib.Core.List.{List, [], _∷_};
 ghost use Prim.Native.Nat.{ℕ, _+_, _*_, _<_, _≤_};
 ghost use lib.ListN.{length, getD, set};
+ghost use Rattle.bits.specs.Bounds.{mostInputs, rowWords, gatePlaces};
 ghost use Rattle.bits.specs.Bit.{bit, column, number};
+ghost use Rattle.network.specs.Bounds.{mostGates, mostSignals, signalWords};
 ghost use Rattle.network.specs.Net.{entry};
 ghost use Rattle.network.specs.Flat.{gateAt};
 ghost use Rattle.network.specs.Valid.{GateOk, NetOk};
 ghost use Rattle.simulate.specs.Simulated.{Inputs, wordsAt, valueAt, Rows};
+use bits::GATE_PLACES;
+use bits::ROW_WORDS;
+use network::FANIN_PLACES;
+use network::MOST_GATES;
+use network::SIGNAL_WORDS;
 
 // The table t at the rows of one to four signals, into a lent row.
-fn row1(t: u64, rows: &[u64; 800], count: usize, a: usize, out: &mut [u64; 16])
-    requires { ⌜ (count ≤ 16) × (length (now out) ≡ 16) ⌝ }
-    requires { ⌜ (a < 50) ⌝ }
-    ensures { λ _. ⌜ (length (now (out .exit)) ≡ 16) × ((w i : ℕ) → w < count → i < 64 → bit (getD (now (out .exit)) w 0) i ≡ bit t (number (valueAt (now (rows .entry)) a w i ∷ []))) ⌝ }
+fn row1(t: u64, rows: &[u64; SIGNAL_WORDS], count: usize, a: usize, out: &mut [u64; ROW_WORDS])
+    requires { ⌜ (count ≤ rowWords) × (length (now out) ≡ rowWords) ⌝ }
+    requires { ⌜ (a < mostSignals) ⌝ }
+    ensures { λ _. ⌜ (length (now (out .exit)) ≡ rowWords) × ((w i : ℕ) → w < count → i < 64 → bit (getD (now (out .exit)) w 0) i ≡ bit t (number (valueAt (now (rows .entry)) a w i ∷ []))) ⌝ }
 {
     let mut w = 0;
     while w < count {
-        let v = bits::lut1(t, rows[16 * a + w]);
+        let v = bits::lut1(t, rows[ROW_WORDS * a + w]);
         out[w] = v;
         w += 1;
     }
 }
 
-fn row2(t: u64, rows: &[u64; 800], count: usize, a: usize, b: usize, out: &mut [u64; 16])
-    requires { ⌜ (count ≤ 16) × (length (now out) ≡ 16) ⌝ }
-    requires { ⌜ (a < 50) × (b < 50) ⌝ }
-    ensures { λ _. ⌜ (length (now (out .exit)) ≡ 16) × ((w i : ℕ) → w < count → i < 64 → bit (getD (now (out .exit)) w 0) i ≡ bit t (number (valueAt (now (rows .entry)) a w i ∷ valueAt (now (rows .entry)) b w i ∷ []))) ⌝ }
+fn row2(
+    t: u64,
+    rows: &[u64; SIGNAL_WORDS],
+    count: usize,
+    a: usize,
+    b: usize,
+    out: &mut [u64; ROW_WORDS],
+)
+    requires { ⌜ (count ≤ rowWords) × (length (now out) ≡ rowWords) ⌝ }
+    requires { ⌜ (a < mostSignals) × (b < mostSignals) ⌝ }
+    ensures { λ _. ⌜ (length (now (out .exit)) ≡ rowWords) × ((w i : ℕ) → w < count → i < 64 → bit (getD (now (out .exit)) w 0) i ≡ bit t (number (valueAt (now (rows .entry)) a w i ∷ valueAt (now (rows .entry)) b w i ∷ []))) ⌝ }
 {
     let mut w = 0;
     while w < count {
-        let v = bits::lut2(t, rows[16 * a + w], rows[16 * b + w]);
+        let v = bits::lut2(t, rows[ROW_WORDS * a + w], rows[ROW_WORDS * b + w]);
         out[w] = v;
         w += 1;
     }
 }
 
-fn row3(t: u64, rows: &[u64; 800], count: usize, a: usize, b: usize, c: usize, out: &mut [u64; 16])
-    requires { ⌜ (count ≤ 16) × (length (now out) ≡ 16) ⌝ }
-    requires { ⌜ (a < 50) × (b < 50) × (c < 50) ⌝ }
-    ensures { λ _. ⌜ (length (now (out .exit)) ≡ 16) × ((w i : ℕ) → w < count → i < 64 → bit (getD (now (out .exit)) w 0) i ≡ bit t (number (valueAt (now (rows .entry)) a w i ∷ valueAt (now (rows .entry)) b w i ∷ valueAt (now (rows .entry)) c w i ∷ []))) ⌝ }
+fn row3(
+    t: u64,
+    rows: &[u64; SIGNAL_WORDS],
+    count: usize,
+    a: usize,
+    b: usize,
+    c: usize,
+    out: &mut [u64; ROW_WORDS],
+)
+    requires { ⌜ (count ≤ rowWords) × (length (now out) ≡ rowWords) ⌝ }
+    requires { ⌜ (a < mostSignals) × (b < mostSignals) × (c < mostSignals) ⌝ }
+    ensures { λ _. ⌜ (length (now (out .exit)) ≡ rowWords) × ((w i : ℕ) → w < count → i < 64 → bit (getD (now (out .exit)) w 0) i ≡ bit t (number (valueAt (now (rows .entry)) a w i ∷ valueAt (now (rows .entry)) b w i ∷ valueAt (now (rows .entry)) c w i ∷ []))) ⌝ }
 {
     let mut w = 0;
     while w < count {
-        let v = bits::lut3(t, rows[16 * a + w], rows[16 * b + w], rows[16 * c + w]);
+        let v = bits::lut3(
+            t,
+            rows[ROW_WORDS * a + w],
+            rows[ROW_WORDS * b + w],
+            rows[ROW_WORDS * c + w],
+        );
         out[w] = v;
         w += 1;
     }
@@ -51,26 +78,26 @@ fn row3(t: u64, rows: &[u64; 800], count: usize, a: usize, b: usize, c: usize, o
 
 fn row4(
     t: u64,
-    rows: &[u64; 800],
+    rows: &[u64; SIGNAL_WORDS],
     count: usize,
     a: usize,
     b: usize,
     c: usize,
     d: usize,
-    out: &mut [u64; 16],
+    out: &mut [u64; ROW_WORDS],
 )
-    requires { ⌜ (count ≤ 16) × (length (now out) ≡ 16) ⌝ }
-    requires { ⌜ (a < 50) × (b < 50) × (c < 50) × (d < 50) ⌝ }
-    ensures { λ _. ⌜ (length (now (out .exit)) ≡ 16) × ((w i : ℕ) → w < count → i < 64 → bit (getD (now (out .exit)) w 0) i ≡ bit t (number (valueAt (now (rows .entry)) a w i ∷ valueAt (now (rows .entry)) b w i ∷ valueAt (now (rows .entry)) c w i ∷ valueAt (now (rows .entry)) d w i ∷ []))) ⌝ }
+    requires { ⌜ (count ≤ rowWords) × (length (now out) ≡ rowWords) ⌝ }
+    requires { ⌜ (a < mostSignals) × (b < mostSignals) × (c < mostSignals) × (d < mostSignals) ⌝ }
+    ensures { λ _. ⌜ (length (now (out .exit)) ≡ rowWords) × ((w i : ℕ) → w < count → i < 64 → bit (getD (now (out .exit)) w 0) i ≡ bit t (number (valueAt (now (rows .entry)) a w i ∷ valueAt (now (rows .entry)) b w i ∷ valueAt (now (rows .entry)) c w i ∷ valueAt (now (rows .entry)) d w i ∷ []))) ⌝ }
 {
     let mut w = 0;
     while w < count {
         let v = bits::lut4(
             t,
-            rows[16 * a + w],
-            rows[16 * b + w],
-            rows[16 * c + w],
-            rows[16 * d + w],
+            rows[ROW_WORDS * a + w],
+            rows[ROW_WORDS * b + w],
+            rows[ROW_WORDS * c + w],
+            rows[ROW_WORDS * d + w],
         );
         out[w] = v;
         w += 1;
@@ -78,26 +105,26 @@ fn row4(
 }
 
 // Fan-in r of gate g.
-pub fn fanin(fanins: &[u8; 240], g: usize, r: usize) -> usize
-    requires { ⌜ (g < 40) × (r < 6) ⌝ }
-    ensures { λ s. ⌜ s ≡ getD (now (fanins .entry)) (6 * g + r) 0 ⌝ }
+pub fn fanin(fanins: &[u8; FANIN_PLACES], g: usize, r: usize) -> usize
+    requires { ⌜ (g < mostGates) × (r < gatePlaces) ⌝ }
+    ensures { λ s. ⌜ s ≡ getD (now (fanins .entry)) (gatePlaces * g + r) 0 ⌝ }
 {
-    network::place(fanins[6 * g + r])
+    network::place(fanins[GATE_PLACES * g + r])
 }
 
 // The table t at the rows of the fan-ins of gate g, into a lent row.
 pub fn lut_row(
     t: u64,
-    arity: &[u8; 40],
-    fanins: &[u8; 240],
-    rows: &[u64; 800],
+    arity: &[u8; MOST_GATES],
+    fanins: &[u8; FANIN_PLACES],
+    rows: &[u64; SIGNAL_WORDS],
     count: usize,
     g: usize,
-    out: &mut [u64; 16],
+    out: &mut [u64; ROW_WORDS],
 )
-    requires { ⌜ (g < 40) × (count ≤ 16) × (length (now out) ≡ 16) ⌝ }
-    requires { ⌜ GateOk (now arity) (now fanins) g 50 ⌝ }
-    ensures { λ _. ⌜ (length (now (out .exit)) ≡ 16) × ((ts : List ℕ) (w b : ℕ) → w < count → b < 64 → bit (getD (now (out .exit)) w 0) b ≡ bit t (entry (column (wordsAt (now (rows .entry)) w) b) (gateAt (now (arity .entry)) (now (fanins .entry)) ts g))) ⌝ }
+    requires { ⌜ (g < mostGates) × (count ≤ rowWords) × (length (now out) ≡ rowWords) ⌝ }
+    requires { ⌜ GateOk (now arity) (now fanins) g mostSignals ⌝ }
+    ensures { λ _. ⌜ (length (now (out .exit)) ≡ rowWords) × ((ts : List ℕ) (w b : ℕ) → w < count → b < 64 → bit (getD (now (out .exit)) w 0) b ≡ bit t (entry (column (wordsAt (now (rows .entry)) w) b) (gateAt (now (arity .entry)) (now (fanins .entry)) ts g))) ⌝ }
 {
     let k = network::place(arity[g]);
     let a = fanin(fanins, g, 0);
@@ -118,31 +145,31 @@ pub fn lut_row(
 
 // Word w of each fan-in of gate g.
 pub fn gather_at(
-    arity: &[u8; 40],
-    fanins: &[u8; 240],
-    rows: &[u64; 800],
+    arity: &[u8; MOST_GATES],
+    fanins: &[u8; FANIN_PLACES],
+    rows: &[u64; SIGNAL_WORDS],
     g: usize,
     w: usize,
-) -> [u64; 6]
-    requires { ⌜ (g < 40) × (w < 16) ⌝ }
-    requires { ⌜ GateOk (now arity) (now fanins) g 50 ⌝ }
-    ensures { λ l. ⌜ ((r : ℕ) → r < getD (now (arity .entry)) g 0 → getD l r 0 ≡ getD (wordsAt (now (rows .entry)) w) (getD (now (fanins .entry)) (6 * g + r) 0) 0) ⌝ }
+) -> [u64; GATE_PLACES]
+    requires { ⌜ (g < mostGates) × (w < rowWords) ⌝ }
+    requires { ⌜ GateOk (now arity) (now fanins) g mostSignals ⌝ }
+    ensures { λ l. ⌜ ((r : ℕ) → r < getD (now (arity .entry)) g 0 → getD l r 0 ≡ getD (wordsAt (now (rows .entry)) w) (getD (now (fanins .entry)) (gatePlaces * g + r) 0) 0) ⌝ }
 {
     let k = network::place(arity[g]);
-    let mut ins = [0u64; 6];
+    let mut ins = [0u64; GATE_PLACES];
     let mut r = 0;
     while r < k {
         let f = fanin(fanins, g, r);
-        ins[r] = rows[16 * f + w];
+        ins[r] = rows[ROW_WORDS * f + w];
         r += 1;
     }
     ins
 }
 
 // The words of input i, into a lent row.
-fn input_row(i: usize, count: usize, out: &mut [u64; 16])
-    requires { ⌜ (i < 64) × (count ≤ 16) × (length (now out) ≡ 16) ⌝ }
-    ensures { λ _. ⌜ (length (now (out .exit)) ≡ 16) × ((w b : ℕ) → w < count → b < 64 → bit (getD (now (out .exit)) w 0) b ≡ bit (w * 64 + b) i) ⌝ }
+fn input_row(i: usize, count: usize, out: &mut [u64; ROW_WORDS])
+    requires { ⌜ (i < 64) × (count ≤ rowWords) × (length (now out) ≡ rowWords) ⌝ }
+    ensures { λ _. ⌜ (length (now (out .exit)) ≡ rowWords) × ((w b : ℕ) → w < count → b < 64 → bit (getD (now (out .exit)) w 0) b ≡ bit (w * 64 + b) i) ⌝ }
 {
     let mut w = 0;
     while w < count {
@@ -153,24 +180,24 @@ fn input_row(i: usize, count: usize, out: &mut [u64; 16])
 }
 
 // Signal s gets all words of a row.
-pub fn store_row(rows: &mut [u64; 800], s: usize, row: &[u64; 16])
-    requires { ⌜ s < 50 ⌝ }
-    requires { ⌜ length (now rows) ≡ 800 ⌝ }
-    ensures { λ _. ⌜ (length (now (rows .exit)) ≡ 800) × ((w : ℕ) → w < 16 → wordsAt (now (rows .exit)) w ≡ set (wordsAt (now (rows .entry)) w) s (getD (now (row .entry)) w 0)) ⌝ }
+pub fn store_row(rows: &mut [u64; SIGNAL_WORDS], s: usize, row: &[u64; ROW_WORDS])
+    requires { ⌜ s < mostSignals ⌝ }
+    requires { ⌜ length (now rows) ≡ signalWords ⌝ }
+    ensures { λ _. ⌜ (length (now (rows .exit)) ≡ signalWords) × ((w : ℕ) → w < rowWords → wordsAt (now (rows .exit)) w ≡ set (wordsAt (now (rows .entry)) w) s (getD (now (row .entry)) w 0)) ⌝ }
 {
     let mut w = 0;
-    while w < 16 {
-        rows[16 * s + w] = row[w];
+    while w < ROW_WORDS {
+        rows[ROW_WORDS * s + w] = row[w];
         w += 1;
     }
 }
 
 // The rows of the n inputs.
-fn input_rows(n: usize, count: usize, rows: &mut [u64; 800])
-    requires { ⌜ (n ≤ 10) × (count ≤ 16) × (length (now rows) ≡ 800) ⌝ }
-    ensures { λ _. ⌜ (length (now (rows .exit)) ≡ 800) × ((w : ℕ) → w < count → Inputs (wordsAt (now (rows .exit)) w) n w) ⌝ }
+fn input_rows(n: usize, count: usize, rows: &mut [u64; SIGNAL_WORDS])
+    requires { ⌜ (n ≤ mostInputs) × (count ≤ rowWords) × (length (now rows) ≡ signalWords) ⌝ }
+    ensures { λ _. ⌜ (length (now (rows .exit)) ≡ signalWords) × ((w : ℕ) → w < count → Inputs (wordsAt (now (rows .exit)) w) n w) ⌝ }
 {
-    let mut row = [0u64; 16];
+    let mut row = [0u64; ROW_WORDS];
     let mut i = 0;
     while i < n {
         input_row(i, count, &mut row);
@@ -182,18 +209,18 @@ fn input_rows(n: usize, count: usize, rows: &mut [u64; 800])
 // The row of gate g, from those of the signals before it.
 fn gate_row(
     n: usize,
-    arity: &[u8; 40],
-    fanins: &[u8; 240],
-    tables: &[u64; 40],
+    arity: &[u8; MOST_GATES],
+    fanins: &[u8; FANIN_PLACES],
+    tables: &[u64; MOST_GATES],
     count: usize,
-    rows: &mut [u64; 800],
+    rows: &mut [u64; SIGNAL_WORDS],
     g: usize,
 )
-    requires { ⌜ (n ≤ 10) × (g < 40) × (count ≤ 16) × (length (now rows) ≡ 800) ⌝ }
+    requires { ⌜ (n ≤ mostInputs) × (g < mostGates) × (count ≤ rowWords) × (length (now rows) ≡ signalWords) ⌝ }
     requires { ⌜ GateOk (now arity) (now fanins) g (n + g) ⌝ }
-    ensures { λ _. ⌜ (length (now (rows .exit)) ≡ 800) × (Rows (now (arity .entry)) (now (fanins .entry)) (now (tables .entry)) (now (rows .entry)) n g count → Rows (now (arity .entry)) (now (fanins .entry)) (now (tables .entry)) (now (rows .exit)) n (g + 1) count) ⌝ }
+    ensures { λ _. ⌜ (length (now (rows .exit)) ≡ signalWords) × (Rows (now (arity .entry)) (now (fanins .entry)) (now (tables .entry)) (now (rows .entry)) n g count → Rows (now (arity .entry)) (now (fanins .entry)) (now (tables .entry)) (now (rows .exit)) n (g + 1) count) ⌝ }
 {
-    let mut row = [0u64; 16];
+    let mut row = [0u64; ROW_WORDS];
     lut_row(tables[g], arity, fanins, rows, count, g, &mut row);
     store_row(rows, n + g, &row);
 }
@@ -202,15 +229,15 @@ fn gate_row(
 pub fn rows(
     n: usize,
     m: usize,
-    arity: &[u8; 40],
-    fanins: &[u8; 240],
-    tables: &[u64; 40],
+    arity: &[u8; MOST_GATES],
+    fanins: &[u8; FANIN_PLACES],
+    tables: &[u64; MOST_GATES],
     count: usize,
-    rows: &mut [u64; 800],
+    rows: &mut [u64; SIGNAL_WORDS],
 )
     requires { ⌜ NetOk (now arity) (now fanins) n m ⌝ }
-    requires { ⌜ (count ≤ 16) × (length (now rows) ≡ 800) ⌝ }
-    ensures { λ _. ⌜ (length (now (rows .exit)) ≡ 800) × Rows (now (arity .entry)) (now (fanins .entry)) (now (tables .entry)) (now (rows .exit)) n m count ⌝ }
+    requires { ⌜ (count ≤ rowWords) × (length (now rows) ≡ signalWords) ⌝ }
+    ensures { λ _. ⌜ (length (now (rows .exit)) ≡ signalWords) × Rows (now (arity .entry)) (now (fanins .entry)) (now (tables .entry)) (now (rows .exit)) n m count ⌝ }
 {
     input_rows(n, count, rows);
     let mut g = 0;

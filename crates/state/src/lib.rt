@@ -3,40 +3,48 @@ ghost use mathlib.Core.Path.{_≡_};
 ghost use mathlib.Core.List.{[], _∷_, map};
 ghost use Prim.Native.Nat.{_-_, _*_, _^_, _<_, _≤_};
 ghost use lib.ListN.{length, getD};
+ghost use Rattle.bits.specs.Bounds.{mostInputs};
 ghost use Rattle.bits.specs.Range.{places, upFrom};
+ghost use Rattle.network.specs.Bounds.{mostGates, mostOutputs, mostFanins, excludedWords};
 ghost use Rattle.network.specs.Tests.{first, countTest, faninTest, faninsTest, widthTest, excludedTest, outputTest};
 ghost use Rattle.network.specs.Tests as tests;
 ghost use Rattle.network.specs.State.{gateFault, stateFault, stateTest};
+use bits::GATE_PLACES;
+use bits::MOST_INPUTS;
 use network::Answer;
+use network::EXCLUDED_WORDS;
+use network::MOST_FANINS;
+use network::MOST_GATES;
+use network::MOST_OUTPUTS;
 use network::Refusal;
 use network::Session;
 
-// 3: a count outside 1 .. most.
-pub fn count_test(most: u8, x: u8) -> Answer
+// Refusal 3: a count outside 1 .. most.
+pub fn count_test(most: usize, x: u8) -> Answer
     ensures { λ r. ⌜ r ≡ countTest most x ⌝ }
 {
     if x < 1 {
         return Answer::Refused(Refusal::OutOfBounds);
     }
-    if x > most {
+    if (x as usize) > most {
         return Answer::Refused(Refusal::OutOfBounds);
     }
     Answer::Done
 }
 
-// 3, of the three counts in turn.
+// Refusal 3, of the three counts in turn.
 pub fn counts_test(n: u8, m: u8, p: u8) -> Answer
-    ensures { λ r. ⌜ r ≡ first (countTest 10 n ∷ countTest 40 m ∷ countTest 8 p ∷ []) ⌝ }
+    ensures { λ r. ⌜ r ≡ first (countTest mostInputs n ∷ countTest mostGates m ∷ countTest mostOutputs p ∷ []) ⌝ }
 {
-    let a = count_test(10, n);
+    let a = count_test(MOST_INPUTS, n);
     if let Answer::Refused(_) = a {
         return a;
     }
-    let b = count_test(40, m);
+    let b = count_test(MOST_GATES, m);
     if let Answer::Refused(_) = b {
         return b;
     }
-    count_test(8, p)
+    count_test(MOST_OUTPUTS, p)
 }
 
 // Whether x is one of the bytes.
@@ -53,7 +61,7 @@ fn member(fs: &[u8], x: u8) -> bool
     false
 }
 
-// 4, then 5, of fan-in j: no signal below limit, or listed before.
+// Refusal 4, then 5, of fan-in j: no signal below limit, or listed before.
 fn fanin_test(fs: &[u8], limit: u8, j: usize) -> Answer
     requires { ⌜ j < length (now fs) ⌝ }
     ensures { λ r. ⌜ r ≡ faninTest limit (now (fs .entry)) j ⌝ }
@@ -68,7 +76,7 @@ fn fanin_test(fs: &[u8], limit: u8, j: usize) -> Answer
     Answer::Done
 }
 
-// 4 or 5, of the first fan-in that is refused.
+// Refusal 4 or 5, of the first fan-in that is refused.
 pub fn fanins_test(fs: &[u8], limit: u8) -> Answer
     ensures { λ r. ⌜ r ≡ faninsTest limit (now (fs .entry)) ⌝ }
 {
@@ -83,7 +91,7 @@ pub fn fanins_test(fs: &[u8], limit: u8) -> Answer
     Answer::Done
 }
 
-// 6: a bit set at or past `bits`.
+// Refusal 6: a bit set at or past `bits`.
 fn width_test(bits: u64, x: u64) -> Answer
     ensures { λ r. ⌜ r ≡ widthTest bits x ⌝ }
 {
@@ -96,7 +104,7 @@ fn width_test(bits: u64, x: u64) -> Answer
     Answer::Refused(Refusal::BitPastEnd)
 }
 
-// 6, of the table of a gate with k fan-ins.
+// Refusal 6, of the table of a gate with k fan-ins.
 pub fn table_test(k: u8, x: u64) -> Answer
     requires { ⌜ k < 64 ⌝ }
     ensures { λ r. ⌜ r ≡ widthTest (2 ^ k) x ⌝ }
@@ -104,9 +112,9 @@ pub fn table_test(k: u8, x: u64) -> Answer
     width_test(bits::power(k as u64), x)
 }
 
-// 6, of word w of the excluded set.
+// Refusal 6, of word w of the excluded set.
 fn word_test(n: u8, x: u64, w: u64) -> Answer
-    requires { ⌜ (n ≤ 10) × (w < 16) ⌝ }
+    requires { ⌜ (n ≤ mostInputs) × (w < excludedWords) ⌝ }
     ensures { λ r. ⌜ r ≡ widthTest (2 ^ n - 64 * w) x ⌝ }
 {
     let total = bits::power(n as u64);
@@ -117,13 +125,13 @@ fn word_test(n: u8, x: u64, w: u64) -> Answer
     width_test(total - from, x)
 }
 
-// 6, of the excluded set: a bit set at or past 2^n.
-pub fn excluded_test(n: u8, ws: [u64; 16]) -> Answer
-    requires { ⌜ n ≤ 10 ⌝ }
+// Refusal 6, of the excluded set: a bit set at or past 2^n.
+pub fn excluded_test(n: u8, ws: [u64; EXCLUDED_WORDS]) -> Answer
+    requires { ⌜ n ≤ mostInputs ⌝ }
     ensures { λ r. ⌜ r ≡ excludedTest n ws ⌝ }
 {
     let mut w: usize = 0;
-    while w < 16 {
+    while w < EXCLUDED_WORDS {
         let a = word_test(n, ws[w], w as u64);
         if let Answer::Refused(_) = a {
             return a;
@@ -133,7 +141,7 @@ pub fn excluded_test(n: u8, ws: [u64; 16]) -> Answer
     Answer::Done
 }
 
-// 7: an output that is no signal.
+// Refusal 7: an output that is no signal.
 pub fn output_test(signals: u8, x: u8) -> Answer
     ensures { λ r. ⌜ r ≡ outputTest signals x ⌝ }
 {
@@ -143,9 +151,9 @@ pub fn output_test(signals: u8, x: u8) -> Answer
     Answer::Refused(Refusal::NotASignal)
 }
 
-// 7, of the first p outputs in turn.
-fn outputs_test(p: u8, signals: u8, outputs: [u8; 8]) -> Answer
-    requires { ⌜ p ≤ 8 ⌝ }
+// Refusal 7, of the first p outputs in turn.
+fn outputs_test(p: u8, signals: u8, outputs: [u8; MOST_OUTPUTS]) -> Answer
+    requires { ⌜ p ≤ mostOutputs ⌝ }
     ensures { λ r. ⌜ r ≡ first (map (λ i. outputTest signals (getD outputs i 0)) (upFrom 0 p)) ⌝ }
 {
     let mut i: u8 = 0;
@@ -159,12 +167,12 @@ fn outputs_test(p: u8, signals: u8, outputs: [u8; 8]) -> Answer
     Answer::Done
 }
 
-// 3 to 6, of a gate whose k fan-ins open fs.
+// Refusals 3 to 6, of a gate whose k fan-ins open fs.
 fn gate_test(limit: u8, k: u8, fs: &[u8], loaded: u64, current: u64) -> Answer
-    requires { ⌜ 4 ≤ length (now fs) ⌝ }
-    ensures { λ r. ⌜ r ≡ first (countTest 4 k ∷ faninsTest limit (places k (λ i. getD (now (fs .entry)) i 0)) ∷ widthTest (2 ^ k) loaded ∷ widthTest (2 ^ k) current ∷ []) ⌝ }
+    requires { ⌜ mostFanins ≤ length (now fs) ⌝ }
+    ensures { λ r. ⌜ r ≡ first (countTest mostFanins k ∷ faninsTest limit (places k (λ i. getD (now (fs .entry)) i 0)) ∷ widthTest (2 ^ k) loaded ∷ widthTest (2 ^ k) current ∷ []) ⌝ }
 {
-    let a = count_test(4, k);
+    let a = count_test(MOST_FANINS, k);
     if let Answer::Refused(_) = a {
         return a;
     }
@@ -180,9 +188,9 @@ fn gate_test(limit: u8, k: u8, fs: &[u8], loaded: u64, current: u64) -> Answer
     table_test(k, current)
 }
 
-// 3 to 6, of the gates in turn.
+// Refusals 3 to 6, of the gates in turn.
 fn gates_test(s: Session) -> Answer
-    requires { ⌜ (s .n ≤ 10) × (s .m ≤ 40) ⌝ }
+    requires { ⌜ (s .n ≤ mostInputs) × (s .m ≤ mostGates) ⌝ }
     ensures { λ r. ⌜ r ≡ first (map (gateFault s) (upFrom 0 (s .m))) ⌝ }
 {
     let n = s.n;
@@ -191,7 +199,7 @@ fn gates_test(s: Session) -> Answer
     let mut g: u8 = 0;
     while g < m {
         let i = g as usize;
-        let b = 6 * i;
+        let b = GATE_PLACES * i;
         let a = gate_test(n + g, s.arity[i], &fanins[b..], s.loaded[i], s.current[i]);
         if let Answer::Refused(_) = a {
             return a;
@@ -225,7 +233,7 @@ fn state_fault(s: Session) -> Answer
     outputs_test(p, n + m, outputs)
 }
 
-// 10: any of 3 to 7.
+// Refusal 10: any of 3 to 7.
 pub fn state_test(s: Session) -> Answer
     ensures { λ r. ⌜ r ≡ stateTest s ⌝ }
 {

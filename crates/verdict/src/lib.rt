@@ -3,9 +3,11 @@ ghost use mathlib.Core.Path.{_≡_};
 ghost use mathlib.Core.List.{[], _∷_};
 ghost use Prim.Native.Nat.{ℕ, _+_, _*_, _<_, _≤_};
 ghost use lib.ListN.{getD};
+ghost use Rattle.bits.specs.Bounds.{rowWords};
 ghost use Rattle.bits.specs.Range.{any};
 ghost use Rattle.bits.specs.Bit.{bit};
 ghost use Rattle.network.specs.declared.Answer.the-variants.{Done};
+ghost use Rattle.network.specs.Bounds.{mostOutputs, mostSignals};
 ghost use Rattle.network.specs.Net.{replaced};
 ghost use Rattle.network.specs.Flat.{netOf, loadedNet, currentNet};
 ghost use Rattle.network.specs.Valid.{NetOk, OutputsOk};
@@ -13,24 +15,42 @@ ghost use Rattle.network.specs.State.{stateFault};
 ghost use Rattle.network.specs.Calls.{harmTest};
 ghost use Rattle.simulate.specs.Simulated.{wordsAt};
 ghost use Rattle.verdict.specs.Changed.{changedWord, changedAt, wordHarm};
+use bits::ROW_WORDS;
 use network::Answer;
+use network::EXCLUDED_WORDS;
+use network::FANIN_PLACES;
+use network::MOST_GATES;
+use network::MOST_OUTPUTS;
 use network::Refusal;
+use network::SIGNAL_WORDS;
 use network::Session;
 
 // Where output i has another value in word w of the rows xs than in ys.
-fn changed(outs: &[u8; 8], xs: &[u64; 800], ys: &[u64; 800], w: usize, i: usize) -> u64
-    requires { ⌜ (w < 16) × (i < 8) × (getD (now outs) i 0 < 50) ⌝ }
+fn changed(
+    outs: &[u8; MOST_OUTPUTS],
+    xs: &[u64; SIGNAL_WORDS],
+    ys: &[u64; SIGNAL_WORDS],
+    w: usize,
+    i: usize,
+) -> u64
+    requires { ⌜ (w < rowWords) × (i < mostOutputs) × (getD (now outs) i 0 < mostSignals) ⌝ }
     ensures { λ r. ⌜ r ≡ changedWord (now (outs .entry)) (wordsAt (now (xs .entry)) w) (wordsAt (now (ys .entry)) w) i ⌝ }
 {
     let s = network::place(outs[i]);
-    let at = 16 * s + w;
+    let at = ROW_WORDS * s + w;
     xs[at] ^ ys[at]
 }
 
 // The places of word w at which some output changes.
-fn changes(p: usize, outs: &[u8; 8], xs: &[u64; 800], ys: &[u64; 800], w: usize) -> u64
-    requires { ⌜ OutputsOk (now outs) p 50 ⌝ }
-    requires { ⌜ w < 16 ⌝ }
+fn changes(
+    p: usize,
+    outs: &[u8; MOST_OUTPUTS],
+    xs: &[u64; SIGNAL_WORDS],
+    ys: &[u64; SIGNAL_WORDS],
+    w: usize,
+) -> u64
+    requires { ⌜ OutputsOk (now outs) p mostSignals ⌝ }
+    requires { ⌜ w < rowWords ⌝ }
     ensures { λ r. ⌜ ((b : ℕ) → bit r b ≡ any p (λ i. bit (changedWord (now (outs .entry)) (wordsAt (now (xs .entry)) w) (wordsAt (now (ys .entry)) w) i) b)) ⌝ }
 {
     let mut acc: u64 = 0;
@@ -44,15 +64,15 @@ fn changes(p: usize, outs: &[u8; 8], xs: &[u64; 800], ys: &[u64; 800], w: usize)
 
 // Output i changes at the pattern x of word w, which `keep` holds.
 fn changed_at(
-    outs: &[u8; 8],
-    xs: &[u64; 800],
-    ys: &[u64; 800],
+    outs: &[u8; MOST_OUTPUTS],
+    xs: &[u64; SIGNAL_WORDS],
+    ys: &[u64; SIGNAL_WORDS],
     keep: u64,
     w: usize,
     x: usize,
     i: usize,
 ) -> bool
-    requires { ⌜ (w < 16) × (i < 8) × (getD (now outs) i 0 < 50) × (w * 64 ≤ x) × (x < w * 64 + 64) ⌝ }
+    requires { ⌜ (w < rowWords) × (i < mostOutputs) × (getD (now outs) i 0 < mostSignals) × (w * 64 ≤ x) × (x < w * 64 + 64) ⌝ }
     ensures { λ r. ⌜ r ≡ changedAt (now (outs .entry)) (wordsAt (now (xs .entry)) w) (wordsAt (now (ys .entry)) w) keep w x i ⌝ }
 {
     let d = changed(outs, xs, ys, w, i);
@@ -60,9 +80,16 @@ fn changed_at(
 }
 
 // The first pattern of the word, and there the lowest output, at which an output changes: the search stops there.
-fn search(p: usize, outs: &[u8; 8], xs: &[u64; 800], ys: &[u64; 800], keep: u64, w: usize) -> Answer
-    requires { ⌜ OutputsOk (now outs) p 50 ⌝ }
-    requires { ⌜ w < 16 ⌝ }
+fn search(
+    p: usize,
+    outs: &[u8; MOST_OUTPUTS],
+    xs: &[u64; SIGNAL_WORDS],
+    ys: &[u64; SIGNAL_WORDS],
+    keep: u64,
+    w: usize,
+) -> Answer
+    requires { ⌜ OutputsOk (now outs) p mostSignals ⌝ }
+    requires { ⌜ w < rowWords ⌝ }
     ensures { λ r. ⌜ r ≡ wordHarm (changedAt (now (outs .entry)) (wordsAt (now (xs .entry)) w) (wordsAt (now (ys .entry)) w) keep w) p w ⌝ }
 {
     let base = w * 64;
@@ -88,17 +115,17 @@ fn search(p: usize, outs: &[u8; 8], xs: &[u64; 800], ys: &[u64; 800], keep: u64,
     }
 }
 
-// The same where it is asked first, of the whole word, whether an output changes. A word without a pattern to judge is skipped.
+// The first harm in word w, where the whole word is asked first whether an output changes. A word without a pattern to judge is skipped.
 fn compare(
     p: usize,
-    outs: &[u8; 8],
-    xs: &[u64; 800],
-    ys: &[u64; 800],
+    outs: &[u8; MOST_OUTPUTS],
+    xs: &[u64; SIGNAL_WORDS],
+    ys: &[u64; SIGNAL_WORDS],
     keep: u64,
     w: usize,
 ) -> Answer
-    requires { ⌜ OutputsOk (now outs) p 50 ⌝ }
-    requires { ⌜ w < 16 ⌝ }
+    requires { ⌜ OutputsOk (now outs) p mostSignals ⌝ }
+    requires { ⌜ w < rowWords ⌝ }
     ensures { λ r. ⌜ r ≡ wordHarm (changedAt (now (outs .entry)) (wordsAt (now (xs .entry)) w) (wordsAt (now (ys .entry)) w) keep w) p w ⌝ }
 {
     if keep == 0 {
@@ -116,12 +143,12 @@ fn network_harm(
     n: usize,
     m: usize,
     p: usize,
-    excluded: &[u64; 16],
-    arity: &[u8; 40],
-    fanins: &[u8; 240],
-    loaded: &[u64; 40],
-    tables: &[u64; 40],
-    outs: &[u8; 8],
+    excluded: &[u64; EXCLUDED_WORDS],
+    arity: &[u8; MOST_GATES],
+    fanins: &[u8; FANIN_PLACES],
+    loaded: &[u64; MOST_GATES],
+    tables: &[u64; MOST_GATES],
+    outs: &[u8; MOST_OUTPUTS],
 ) -> Answer
     requires { ⌜ NetOk (now arity) (now fanins) n m ⌝ }
     requires { ⌜ OutputsOk (now outs) p (n + m) ⌝ }
@@ -130,13 +157,13 @@ fn network_harm(
     let f = bits::frame_of(n);
     let words = f.count;
     let live = f.live;
-    let mut xs = [0u64; 800];
+    let mut xs = [0u64; SIGNAL_WORDS];
     simulate::rows(n, m, arity, fanins, loaded, words, &mut xs);
     let mut ys = xs;
     incremental::update(n, m, arity, fanins, loaded, tables, words, &mut ys);
     let mut w = 0;
     while w < words {
-        let keep = live & bits::invert(excluded[w]);
+        let keep = live & bits::complement(excluded[w]);
         let a = compare(p, outs, &xs, &ys, keep, w);
         if let Answer::Refused(_) = a {
             return a;

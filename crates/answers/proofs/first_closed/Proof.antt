@@ -6,7 +6,7 @@ use borrow.Author.Needs.{needs}
 use Rattle.bits.specs.Range.{smallest}
 use Rattle.bits.specs.Bit.{bit, differs}
 use Rattle.network.specs.Calls.{entryFound}
-use Rattle.answers.proofs.Laws.{none-closed, lowest-closed}
+use Rattle.answers.proofs.LowestClosed.{none-closed, lowest-closed}
 use native.Mathlib.Omega.{arith}
 use Rattle.answers.proofs.first_closed.Statement.{statement}
 use Rattle.answers.proofs.first_closed.Tie as tie
@@ -17,8 +17,8 @@ place-requires c κs = search needs
 entry-count-requires : tie.Need-entry-count-requires
 entry-count-requires c κs = search needs
 
-invert-requires : tie.Need-invert-requires
-invert-requires c κs = search needs
+complement-requires : tie.Need-complement-requires
+complement-requires c κs = search needs
 
 mask-requires : tie.Need-mask-requires
 mask-requires c κs = search needs
@@ -29,11 +29,11 @@ returns c =
     let v = m .before in
     let e = v .before in
     let a = e .before .before .args in
-    none-closed (e .entry-count .result) (a .opens) (a .loaded) (a .table) (v .invert .result) (m .mask .result) (omega (arith, e .entry-count .ensures)) (v .invert .ensures) (m .mask .ensures .1) (c .if1 .taken)
+    none-closed (e .entry-count .result) (a .opens) (a .loaded) (a .table) (v .complement .result) (m .mask .result) (omega (arith, e .entry-count .ensures)) (v .complement .ensures) (m .mask .ensures .1) (c .if1 .taken)
     ∙ ap (λ (n : ℕ). entryFound (smallest n (λ t. not (bit (a .opens) t) && differs (bit (a .loaded) t) (bit (a .table) t)))) (e .entry-count .ensures .0 ∙ ap (λ (k : ℕ). 2 ^ k) (e .before .place .ensures))
 
-first-requires : tie.Need-first-requires
-first-requires c κs = search needs
+lowest-bit-requires : tie.Need-lowest-bit-requires
+lowest-bit-requires c κs = search needs
 
 cast-t8 : tie.Need-cast-t8
 cast-t8 c = search needs
@@ -44,7 +44,7 @@ returns-2 c =
     let v = m .before in
     let e = v .before in
     let a = e .before .before .args in
-    lowest-closed (e .entry-count .result) (a .opens) (a .loaded) (a .table) (v .invert .result) (m .mask .result) (omega (arith, e .entry-count .ensures)) (v .invert .ensures) (m .mask .ensures .1) (c .first .result) (c .first .ensures .1) (c .first .ensures .2)
+    lowest-closed (e .entry-count .result) (a .opens) (a .loaded) (a .table) (v .complement .result) (m .mask .result) (omega (arith, e .entry-count .ensures)) (v .complement .ensures) (m .mask .ensures .1) (c .lowest-bit .result) (c .lowest-bit .ensures .1) (c .lowest-bit .ensures .2)
     ∙ ap (λ (n : ℕ). entryFound (smallest n (λ t. not (bit (a .opens) t) && differs (bit (a .loaded) t) (bit (a .table) t)))) (e .entry-count .ensures .0 ∙ ap (λ (k : ℕ). 2 ^ k) (e .before .place .ensures))
 
 pub first-closed-spec : {M : Type 1} → statement M
@@ -53,9 +53,9 @@ first-closed-spec =
     (tie.spec
     place-requires
     entry-count-requires
-    invert-requires
+    complement-requires
     mask-requires
     returns
-    first-requires
+    lowest-bit-requires
     cast-t8
     returns-2)

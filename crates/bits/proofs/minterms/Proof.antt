@@ -38,8 +38,8 @@ element-copy-out-free c = search needs
 shl-split : tie.Need-shl-split Inv-loop μ-loop
 shl-split c = search needs
 
-invert-requires : tie.Need-invert-requires Inv-loop μ-loop
-invert-requires c κs = search needs
+complement-requires : tie.Need-complement-requires Inv-loop μ-loop
+complement-requires c κs = search needs
 
 split-requires : tie.Need-split-requires Inv-loop μ-loop
 split-requires c κs =
@@ -56,7 +56,7 @@ loop-again : tie.Need-loop-again Inv-loop μ-loop
 loop-again c =
     let s = c .before .before .before .before .before .before .args in
     let l = c .before .before .before .before .before .loop in
-    let nv = c .before .invert in (
+    let nv = c .before .complement in (
       omega arith,
       minterms-more (now (s .ins)) (now (s .frees)) (s .keep) (l .words) (c .split .result) (l .r) ((1 * 2 ^ l .r) % 2 ^ 64) (nv .result) (one-shl (l .r) 64 (omega arith)) (nv .ensures) (c .split .ensures) (l .inv .1),
     )
@@ -81,7 +81,7 @@ minterms-spec =
     mul-free
     element-copy-out-free
     shl-split
-    invert-requires
+    complement-requires
     split-requires
     add-r
     loop-less

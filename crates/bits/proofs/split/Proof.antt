@@ -4,13 +4,14 @@ use mathlib.Core.Path.{_≡_}
 use Prim.Native.Nat.{_-_, _≤_}
 use native.Mathlib.Omega.{arith}
 use lib.ListN.{length, length-set}
+use Rattle.bits.specs.Bounds.{smallWords}
 use Rattle.bits.specs.Bit.{Split}
 use Rattle.bits.proofs.MintermLaws.{split-step}
 use Rattle.bits.proofs.split.Statement.{statement}
 use Rattle.bits.proofs.split.Tie as tie
 
 abbrev Inv-loop : tie.InvT-loop
-Inv-loop size lo hi given words₀ t₀ words t = (t ≤ size) × (length words ≡ 16) × Split given words size lo hi t
+Inv-loop size lo hi given words₀ t₀ words t = (t ≤ size) × (length words ≡ smallWords) × Split given words size lo hi t
 
 abbrev μ-loop : tie.MeasureT-loop
 μ-loop size lo hi given words₀ t₀ words t = size - t

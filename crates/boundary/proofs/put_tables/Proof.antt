@@ -5,15 +5,16 @@ use native.Mathlib.Omega.{arith}
 use borrow.Author.Needs.{needs}
 use Rattle.buffer.specs.Laid.{Laid}
 use Rattle.buffer.proofs.Laying.{laid-length}
+use Rattle.network.specs.Bounds.{mostGates}
 use Rattle.network.proofs.TestLaws.{count-e}
 use Rattle.network.proofs.Valid.{valid-e}
-use Rattle.boundary.specs.Boundary.{allTableWords}
+use Rattle.boundary.specs.Boundary.{allTableWords, tablesRoom}
 use Rattle.boundary.proofs.Rows.{row-room, row-next, rows-done}
 use Rattle.boundary.proofs.put_tables.Statement.{statement}
 use Rattle.boundary.proofs.put_tables.Tie as tie
 
 abbrev Inv-loop : tie.InvT-loop
-Inv-loop s out₀ m opens cdc full g₀ out g = (g ≤ m) × (m ≤ 40) × Laid out₀ 0 (allTableWords s g) out (4 * g)
+Inv-loop s out₀ m opens cdc full g₀ out g = (g ≤ m) × (m ≤ mostGates) × Laid out₀ 0 (allTableWords s g) out (tablesRoom * g)
 
 abbrev μ-loop : tie.MeasureT-loop
 μ-loop s out₀ m opens cdc full g₀ out g = m - g
@@ -27,7 +28,7 @@ all-tables-requires c κs = c .before .before .pre .0
 loop-holds : tie.Need-loop-holds Inv-loop μ-loop
 loop-holds c =
     let t = c .before .before .before .before .before .before in
-    let n = count-e 40 (t .args .s .m) (valid-e (t .args .s) (t .pre .0) .gates) in
+    let n = count-e mostGates (t .args .s .m) (valid-e (t .args .s) (t .pre .0) .gates) in
     (omega arith, omega arith, record { buffer = refl; behind = refl })
 
 sdc-requires : tie.Need-sdc-requires Inv-loop μ-loop

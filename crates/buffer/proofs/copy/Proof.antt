@@ -3,18 +3,18 @@ use Prim.Native.Nat.{_-_, _≤_}
 use native.Mathlib.Omega.{arith}
 use lib.ListN.{length, drop}
 use borrow.Author.Needs.{needs}
-use Rattle.buffer.proofs.Laying.{Left, left-start, lay-place, lay-more, lay-all}
+use Rattle.buffer.proofs.Laying.{Pending, pending-start, lay-place, lay-more, lay-all}
 use Rattle.buffer.proofs.copy.Statement.{statement}
 use Rattle.buffer.proofs.copy.Tie as tie
 
 abbrev Inv-loop : tie.InvT-loop
-Inv-loop buf₀ at bytes a₀ i₀ buf a i = (i ≤ length bytes) × Left buf₀ at bytes buf a (drop i bytes)
+Inv-loop buf₀ at bytes a₀ i₀ buf a i = (i ≤ length bytes) × Pending buf₀ at bytes buf a (drop i bytes)
 
 abbrev μ-loop : tie.MeasureT-loop
 μ-loop buf₀ at bytes a₀ i₀ buf a i = length bytes - i
 
 loop-holds : tie.Need-loop-holds Inv-loop μ-loop
-loop-holds c = (omega arith, left-start _ _ _)
+loop-holds c = (omega arith, pending-start _ _ _)
 
 shared-slice-read-buf : tie.Need-shared-slice-read-buf Inv-loop μ-loop
 shared-slice-read-buf c = search needs

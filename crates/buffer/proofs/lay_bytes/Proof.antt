@@ -3,18 +3,18 @@ use Prim.Native.Nat.{_-_, _≤_}
 use native.Mathlib.Omega.{arith}
 use lib.ListN.{length, drop}
 use borrow.Author.Needs.{needs}
-use Rattle.buffer.proofs.Laying.{Left, left-start, lay-place, lay-more, lay-all}
+use Rattle.buffer.proofs.Laying.{Pending, pending-start, lay-place, lay-more, lay-all}
 use Rattle.buffer.proofs.lay_bytes.Statement.{statement}
 use Rattle.buffer.proofs.lay_bytes.Tie as tie
 
 abbrev Inv-loop : tie.InvT-loop
-Inv-loop words₀ at bytes a₀ i₀ words a i = (i ≤ length bytes) × Left words₀ at bytes words a (drop i bytes)
+Inv-loop words₀ at bytes a₀ i₀ words a i = (i ≤ length bytes) × Pending words₀ at bytes words a (drop i bytes)
 
 abbrev μ-loop : tie.MeasureT-loop
 μ-loop words₀ at bytes a₀ i₀ words a i = length bytes - i
 
 loop-holds : tie.Need-loop-holds Inv-loop μ-loop
-loop-holds c = (omega arith, left-start _ _ _)
+loop-holds c = (omega arith, pending-start _ _ _)
 
 shared-slice-read-words : tie.Need-shared-slice-read-words Inv-loop μ-loop
 shared-slice-read-words c = search needs

@@ -3,18 +3,18 @@ use Prim.Native.Nat.{_-_, _≤_}
 use native.Mathlib.Omega.{arith}
 use lib.ListN.{length, drop}
 use borrow.Author.Needs.{needs}
-use Rattle.buffer.proofs.Laying.{Left, left-start, lay-place, lay-more, lay-all}
+use Rattle.buffer.proofs.Laying.{Pending, pending-start, lay-place, lay-more, lay-all}
 use Rattle.buffer.proofs.lay_words.Statement.{statement}
 use Rattle.buffer.proofs.lay_words.Tie as tie
 
 abbrev Inv-loop : tie.InvT-loop
-Inv-loop words₀ at new a₀ i₀ words a i = (i ≤ length new) × Left words₀ at new words a (drop i new)
+Inv-loop words₀ at new a₀ i₀ words a i = (i ≤ length new) × Pending words₀ at new words a (drop i new)
 
 abbrev μ-loop : tie.MeasureT-loop
 μ-loop words₀ at new a₀ i₀ words a i = length new - i
 
 loop-holds : tie.Need-loop-holds Inv-loop μ-loop
-loop-holds c = (omega arith, left-start _ _ _)
+loop-holds c = (omega arith, pending-start _ _ _)
 
 mul-words : tie.Need-mul-words Inv-loop μ-loop
 mul-words c = search needs

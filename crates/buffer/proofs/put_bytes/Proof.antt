@@ -5,18 +5,18 @@ use native.Mathlib.Omega.{arith}
 use borrow.Author.Needs.{needs}
 use Rattle.bits.specs.Lists.{bytesIn}
 use Rattle.bits.proofs.Bytes.{length-bytes, bytes-next}
-use Rattle.buffer.proofs.Laying.{Left, left-start, left-step, left-done, stored}
+use Rattle.buffer.proofs.Laying.{Pending, pending-start, pending-step, pending-done, stored}
 use Rattle.buffer.proofs.put_bytes.Statement.{statement}
 use Rattle.buffer.proofs.put_bytes.Tie as tie
 
 abbrev Inv-loop : tie.InvT-loop
-Inv-loop buf₀ at x c a₀ y₀ left₀ buf a y left = Left buf₀ at (bytesIn c x) buf a (bytesIn left y)
+Inv-loop buf₀ at x c a₀ y₀ left₀ buf a y left = Pending buf₀ at (bytesIn c x) buf a (bytesIn left y)
 
 abbrev μ-loop : tie.MeasureT-loop
 μ-loop buf₀ at x c a₀ y₀ left₀ buf a y left = left
 
 loop-holds : tie.Need-loop-holds Inv-loop μ-loop
-loop-holds c = left-start _ _ _
+loop-holds c = pending-start _ _ _
 
 low-requires : tie.Need-low-requires Inv-loop μ-loop
 low-requires c κs = search needs
@@ -47,7 +47,7 @@ loop-again : tie.Need-loop-again Inv-loop μ-loop
 loop-again c =
     let h = c .before .before .loop in
     let e = bytes-next (h .left) (h .y) (omega arith) in
-    left-step (bytesIn (h .left - 1) (h .y / 256)) (h .inv) e (stored (h .buf) (h .a) (h .y % 256) (c .low .result) (c .low .ensures))
+    pending-step (bytesIn (h .left - 1) (h .y / 256)) (h .inv) e (stored (h .buf) (h .a) (h .y % 256) (c .low .result) (c .low .ensures))
 
 same-length : tie.Need-same-length Inv-loop μ-loop
 same-length c = search needs
@@ -56,7 +56,7 @@ returns : tie.Need-returns Inv-loop μ-loop
 returns c =
     let h = c .before .loop in
     let z : h .left ≡ 0 = omega arith in
-    left-done (h .inv) (rw z)
+    pending-done (h .inv) (rw z)
 
 pub put-bytes-spec : {M : Type 1} → statement M
 put-bytes-spec =

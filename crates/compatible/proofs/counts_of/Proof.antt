@@ -5,7 +5,9 @@ use Prim.Native.Nat.{ℕ, _-_, _*_, _≤_}
 use native.Mathlib.Omega.{arith}
 use lib.ListN.{length, length-set, replicate}
 use denote.Ref.{now}
+use Rattle.bits.specs.Bounds.{rowWords}
 use Rattle.bits.proofs.Ranges.{Changed, unchanged, changed-step}
+use Rattle.network.specs.Bounds.{mostGates}
 use Rattle.network.proofs.Valid.{net-ok}
 use Rattle.compatible.specs.Words.{onesIn}
 use Rattle.compatible.proofs.Stores.{per-gate}
@@ -15,13 +17,13 @@ use Rattle.compatible.proofs.counts_of.Tie as tie
 
 abbrev Inv-loop : tie.InvT-loop
 Inv-loop sets m most counts₀ g₀ counts g =
-    (g ≤ m) × (length counts ≡ 40) × Changed (λ q v. onesIn sets (16 * q) most) (replicate 40 0) counts g
+    (g ≤ m) × (length counts ≡ mostGates) × Changed (λ q v. onesIn sets (rowWords * q) most) (replicate mostGates 0) counts g
 
 abbrev μ-loop : tie.MeasureT-loop
 μ-loop sets m most counts₀ g₀ counts g = m - g
 
--- there are at most 40 gates
-few : (c : tie.After-frame-of Inv-loop μ-loop) → c .before .before .place .result ≤ 40
+-- there are not too many gates
+few : (c : tie.After-frame-of Inv-loop μ-loop) → c .before .before .place .result ≤ mostGates
 few c =
     let m = c .before .before in
     omega (arith, m .place .ensures, net-ok (m .before .args .s) (m .before .pre .0) .most)
@@ -38,7 +40,7 @@ frame-of-requires c κs = let s = c .before .before in omega (arith, c .place2 .
 loop-holds : tie.Need-loop-holds Inv-loop μ-loop
 loop-holds c =
     let a = c .before .before .before .args in
-    (omega arith, refl, unchanged (λ q v. onesIn (now (a .sets)) (16 * q) (c .frame-of .result .count)) (replicate 40 0))
+    (omega arith, refl, unchanged (λ q v. onesIn (now (a .sets)) (rowWords * q) (c .frame-of .result .count)) (replicate mostGates 0))
 
 mul-ones-in : tie.Need-mul-ones-in Inv-loop μ-loop
 mul-ones-in c = omega (arith, few (c .before .before))
@@ -65,7 +67,7 @@ loop-again c =
     let a = f .before .before .before .args in (
       omega arith,
       simp length-set (l .inv .1),
-      changed-step (λ q v. onesIn (now (a .sets)) (16 * q) (f .frame-of .result .count)) (replicate 40 0) (l .counts) (l .g) (c .ones-in .result) (omega (arith, few f)) (l .inv .2) (c .ones-in .ensures),
+      changed-step (λ q v. onesIn (now (a .sets)) (rowWords * q) (f .frame-of .result .count)) (replicate mostGates 0) (l .counts) (l .g) (c .ones-in .result) (omega (arith, few f)) (l .inv .2) (c .ones-in .ensures),
     )
 
 returns : tie.Need-returns Inv-loop μ-loop
@@ -75,9 +77,9 @@ returns c =
     let n = f .before in
     let m = n .before in
     let s = m .before in
-    let q : ℕ → ℕ = λ q. onesIn (now (s .args .sets)) (16 * q) (f .frame-of .result .count) in
+    let q : ℕ → ℕ = λ q. onesIn (now (s .args .sets)) (rowWords * q) (f .frame-of .result .count) in
     let e : l .g ≡ m .place .result = omega arith in
-    per-gate (l .counts) q (m .place .result) (l .inv .1) (subst (λ (k : ℕ). Changed (λ i v. q i) (replicate 40 0) (l .counts) k) e (l .inv .2))
+    per-gate (l .counts) q (m .place .result) (l .inv .1) (subst (λ (k : ℕ). Changed (λ i v. q i) (replicate mostGates 0) (l .counts) k) e (l .inv .2))
     ∙ counts-are (s .args .s) _ _ (n .place2 .ensures) (m .place .ensures) (now (s .args .sets)) (f .frame-of .ensures) (s .pre .1)
 
 pub counts-of-spec : {M : Type 1} → statement M

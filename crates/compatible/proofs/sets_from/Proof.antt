@@ -6,6 +6,8 @@ use native.Mathlib.Omega.{arith}
 use lib.Bits.{bitAnd}
 use lib.ListN.{length, getD}
 use denote.Ref.{now}
+use Rattle.bits.specs.Bounds.{rowWords}
+use Rattle.network.specs.Bounds.{gateWords}
 use Rattle.network.proofs.Valid.{net-ok}
 use Rattle.simulate.specs.Simulated.{wordsAt}
 use Rattle.compatible.proofs.Stores.{sets-step}
@@ -15,7 +17,7 @@ use Rattle.compatible.proofs.sets_from.Tie as tie
 
 abbrev Inv-loop : tie.InvT-loop
 Inv-loop hs live count n m sets₀ w₀ sets w =
-    (w ≤ count) × (length sets ≡ 640) × ((g v : ℕ) → g < m → v < w → getD sets (16 * g + v) 0 ≡ bitAnd live (getD (wordsAt hs v) (n + g) 0))
+    (w ≤ count) × (length sets ≡ gateWords) × ((g v : ℕ) → g < m → v < w → getD sets (rowWords * g + v) 0 ≡ bitAnd live (getD (wordsAt hs v) (n + g) 0))
 
 abbrev μ-loop : tie.MeasureT-loop
 μ-loop hs live count n m sets₀ w₀ sets w = count - w

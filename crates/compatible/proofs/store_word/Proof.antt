@@ -7,6 +7,8 @@ use lib.Bits.{bitAnd}
 use lib.ListN.{length, getD, length-set}
 use lib.Seq.{getD-set-other}
 use denote.Ref.{now}
+use Rattle.bits.specs.Bounds.{rowWords}
+use Rattle.network.specs.Bounds.{gateWords}
 use Rattle.simulate.specs.Simulated.{wordsAt}
 use Rattle.simulate.proofs.RowLaws.{words-at}
 use Rattle.compatible.proofs.Stores.{stored}
@@ -15,8 +17,8 @@ use Rattle.compatible.proofs.store_word.Tie as tie
 
 abbrev Inv-loop : tie.InvT-loop
 Inv-loop n m hs live w sets₀ g₀ sets g =
-    (g ≤ m) × (length sets ≡ 640) × ((q : ℕ) → q < g → getD sets (16 * q + w) 0 ≡ bitAnd live (getD (wordsAt hs w) (n + q) 0))
-    × ((q v : ℕ) → v < w → getD sets (16 * q + v) 0 ≡ getD sets₀ (16 * q + v) 0)
+    (g ≤ m) × (length sets ≡ gateWords) × ((q : ℕ) → q < g → getD sets (rowWords * q + w) 0 ≡ bitAnd live (getD (wordsAt hs w) (n + q) 0))
+    × ((q v : ℕ) → v < w → getD sets (rowWords * q + v) 0 ≡ getD sets₀ (rowWords * q + v) 0)
 
 abbrev μ-loop : tie.MeasureT-loop
 μ-loop n m hs live w sets₀ g₀ sets g = m - g
@@ -61,12 +63,12 @@ loop-again : tie.Need-loop-again Inv-loop μ-loop
 loop-again c =
     let a = c .before .before .before .args in
     let l = c .before .before .loop in
-    let x = bitAnd (a .live) (getD (now (a .hs)) (16 * (a .n + l .g) + a .w) 0) in
-    let h : 16 * l .g + a .w < length (l .sets) = omega arith in (
+    let x = bitAnd (a .live) (getD (now (a .hs)) (rowWords * (a .n + l .g) + a .w) 0) in
+    let h : rowWords * l .g + a .w < length (l .sets) = omega arith in (
       omega arith,
       simp length-set (l .inv .1),
       stored (l .sets) (λ q. bitAnd (a .live) (getD (wordsAt (now (a .hs)) (a .w)) (a .n + q) 0)) (a .w) (l .g) x h (l .inv .2) (ap (bitAnd (a .live)) (sym (words-at (now (a .hs)) (a .w) (a .n + l .g) (omega arith)))),
-      λ q v lv. getD-set-other (l .sets) (16 * l .g + a .w) (16 * q + v) x 0 (λ e. omega arith) ∙ l .inv .3 q v lv,
+      λ q v lv. getD-set-other (l .sets) (rowWords * l .g + a .w) (rowWords * q + v) x 0 (λ e. omega arith) ∙ l .inv .3 q v lv,
     )
 
 returns : tie.Need-returns Inv-loop μ-loop

@@ -7,6 +7,7 @@ use native.Mathlib.Omega.{arith}
 use lib.ListN.{getD}
 use denote.Ref.{now}
 use Rattle.bits.proofs.Cuts.{all-there}
+use Rattle.network.specs.Bounds.{mostFanins}
 use Rattle.dontcares.proofs.TableLaws.{delivers, upTo, none-yet, word-more, word-delivers}
 use Rattle.dontcares.proofs.delivered.Statement.{statement}
 use Rattle.dontcares.proofs.delivered.Tie as tie
@@ -18,7 +19,7 @@ Inv-loop arity fanins rows keep count g k all acc₀ w₀ acc w =
 abbrev μ-loop : tie.MeasureT-loop
 μ-loop arity fanins rows keep count g k all acc₀ w₀ acc w = count - w
 
-few : (c : tie.After-place Inv-loop μ-loop) → (1 ≤ c .place .result) × (c .place .result ≤ 4)
+few : (c : tie.After-place Inv-loop μ-loop) → (1 ≤ c .place .result) × (c .place .result ≤ mostFanins)
 few c =
     let s = c .before .before in
     (omega (arith, c .place .ensures, s .pre .1 .some), omega (arith, c .place .ensures, s .pre .1 .few))

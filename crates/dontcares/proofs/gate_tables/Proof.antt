@@ -2,11 +2,12 @@
 use borrow.Author.Needs.{needs}
 use Prim.Native.Nat.{_<_}
 use native.Mathlib.Omega.{arith}
+use Rattle.network.specs.Bounds.{mostGates}
 use Rattle.network.proofs.Valid.{net-ok}
 use Rattle.dontcares.proofs.gate_tables.Statement.{statement}
 use Rattle.dontcares.proofs.gate_tables.Tie as tie
 
-few : (s : tie.Start) → s .args .g < 40
+few : (s : tie.Start) → s .args .g < mostGates
 few s = omega (arith, s .pre .1, net-ok (s .args .s) (s .pre .0) .most)
 
 add-e : tie.Need-add-e

@@ -7,6 +7,7 @@ use native.Mathlib.Omega.{arith}
 use lib.Bits.{bitAnd}
 use lib.ListN.{length, getD, length-set}
 use denote.Ref.{now}
+use Rattle.bits.specs.Bounds.{rowWords}
 use Rattle.bits.specs.Bit.{bit}
 use Rattle.bits.proofs.BitLaws.{bit-and, bit-or}
 use Rattle.simulate.proofs.RowLaws.{filled-bits}
@@ -15,7 +16,7 @@ use Rattle.dontcares.proofs.keep_row.Tie as tie
 
 abbrev Inv-loop : tie.InvT-loop
 Inv-loop excluded odc live count g l₀ w₀ l w =
-    (w ≤ count) × (length l ≡ 16) × ((q i : ℕ) → q < w → i < 64 → bit (getD l q 0) i ≡ (bit live i && not (bit (getD excluded q 0) i || bit (getD odc (16 * g + q) 0) i)))
+    (w ≤ count) × (length l ≡ rowWords) × ((q i : ℕ) → q < w → i < 64 → bit (getD l q 0) i ≡ (bit live i && not (bit (getD excluded q 0) i || bit (getD odc (rowWords * g + q) 0) i)))
 
 abbrev μ-loop : tie.MeasureT-loop
 μ-loop excluded odc live count g l₀ w₀ l w = count - w
@@ -23,26 +24,26 @@ abbrev μ-loop : tie.MeasureT-loop
 loop-holds : tie.Need-loop-holds Inv-loop μ-loop
 loop-holds c = (omega arith, refl, λ q i h k. absurd (omega arith))
 
-mul-invert : tie.Need-mul-invert Inv-loop μ-loop
-mul-invert c = search needs
+mul-complement : tie.Need-mul-complement Inv-loop μ-loop
+mul-complement c = search needs
 
-element-copy-out-invert : tie.Need-element-copy-out-invert Inv-loop μ-loop
-element-copy-out-invert c = search needs
+element-copy-out-complement : tie.Need-element-copy-out-complement Inv-loop μ-loop
+element-copy-out-complement c = search needs
 
-mul-invert-2 : tie.Need-mul-invert-2 Inv-loop μ-loop
-mul-invert-2 c = search needs
+mul-complement-2 : tie.Need-mul-complement-2 Inv-loop μ-loop
+mul-complement-2 c = search needs
 
-add-invert : tie.Need-add-invert Inv-loop μ-loop
-add-invert c = search needs
+add-complement : tie.Need-add-complement Inv-loop μ-loop
+add-complement c = search needs
 
-mul-invert-3 : tie.Need-mul-invert-3 Inv-loop μ-loop
-mul-invert-3 c = search needs
+mul-complement-3 : tie.Need-mul-complement-3 Inv-loop μ-loop
+mul-complement-3 c = search needs
 
-element-copy-out-invert-2 : tie.Need-element-copy-out-invert-2 Inv-loop μ-loop
-element-copy-out-invert-2 c = search needs
+element-copy-out-complement-2 : tie.Need-element-copy-out-complement-2 Inv-loop μ-loop
+element-copy-out-complement-2 c = search needs
 
-invert-requires : tie.Need-invert-requires Inv-loop μ-loop
-invert-requires c κs = search needs
+complement-requires : tie.Need-complement-requires Inv-loop μ-loop
+complement-requires c κs = search needs
 
 mul-l : tie.Need-mul-l Inv-loop μ-loop
 mul-l c = search needs
@@ -61,11 +62,11 @@ loop-again c =
     let l = c .before .before .before .before in
     let a = l .before .args in
     let e = getD (now (a .excluded)) (l .loop .w) 0 in
-    let o = getD (now (a .odc)) (16 * a .g + l .loop .w) 0 in (
+    let o = getD (now (a .odc)) (rowWords * a .g + l .loop .w) 0 in (
       omega arith,
       simp length-set (l .loop .inv .1),
-      filled-bits (l .loop .l) (λ q i. bit (a .live) i && not (bit (getD (now (a .excluded)) q 0) i || bit (getD (now (a .odc)) (16 * a .g + q) 0) i)) (l .loop .w) (bitAnd (a .live) (c .invert .result)) (omega arith) (l .loop .inv .2)
-          (λ i h. bit-and (a .live) (c .invert .result) i ∙ ap (λ (x : Bool). bit (a .live) i && x) (c .invert .ensures i h ∙ ap not (bit-or e o i))),
+      filled-bits (l .loop .l) (λ q i. bit (a .live) i && not (bit (getD (now (a .excluded)) q 0) i || bit (getD (now (a .odc)) (rowWords * a .g + q) 0) i)) (l .loop .w) (bitAnd (a .live) (c .complement .result)) (omega arith) (l .loop .inv .2)
+          (λ i h. bit-and (a .live) (c .complement .result) i ∙ ap (λ (x : Bool). bit (a .live) i && x) (c .complement .ensures i h ∙ ap not (bit-or e o i))),
     )
 
 returns : tie.Need-returns Inv-loop μ-loop
@@ -78,13 +79,13 @@ keep-row-spec =
     Inv-loop
     μ-loop
     loop-holds
-    mul-invert
-    element-copy-out-invert
-    mul-invert-2
-    add-invert
-    mul-invert-3
-    element-copy-out-invert-2
-    invert-requires
+    mul-complement
+    element-copy-out-complement
+    mul-complement-2
+    add-complement
+    mul-complement-3
+    element-copy-out-complement-2
+    complement-requires
     mul-l
     array-write-l
     add-w

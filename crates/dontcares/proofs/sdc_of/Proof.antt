@@ -10,8 +10,8 @@ use Rattle.dontcares.proofs.sdc_of.Tie as tie
 entry-count-requires : tie.Need-entry-count-requires
 entry-count-requires c κs = search needs
 
-rest-requires : tie.Need-rest-requires
-rest-requires c κs =
+complement-within-requires : tie.Need-complement-within-requires
+complement-within-requires c κs =
     let s = c .before in
     (omega (arith, c .entry-count .ensures .1), subst (λ (i : ℕ). s .args .table < 2 ^ i) (sym (c .entry-count .ensures .0)) (s .pre .1))
 
@@ -25,15 +25,15 @@ add-result : tie.Need-add-result
 add-result c =
     let ec = c .before in
     let s = ec .before in
-    omega (arith, sdc-sum (s .args .k) (s .args .table) (s .pre .0) (s .pre .1) (ec .entry-count .result) (c .rest .result) (ec .entry-count .ensures .0) (c .rest .ensures), sdc-fits (s .args .k) (s .args .table) (s .pre .0) (s .pre .1))
+    omega (arith, sdc-sum (s .args .k) (s .args .table) (s .pre .0) (s .pre .1) (ec .entry-count .result) (c .complement-within .result) (ec .entry-count .ensures .0) (c .complement-within .ensures), sdc-fits (s .args .k) (s .args .table) (s .pre .0) (s .pre .1))
 
 returns : tie.Need-returns
 returns c =
     let ec = c .before in
     let s = ec .before in
-    sdc-sum (s .args .k) (s .args .table) (s .pre .0) (s .pre .1) (ec .entry-count .result) (c .rest .result) (ec .entry-count .ensures .0) (c .rest .ensures)
+    sdc-sum (s .args .k) (s .args .table) (s .pre .0) (s .pre .1) (ec .entry-count .result) (c .complement-within .result) (ec .entry-count .ensures .0) (c .complement-within .ensures)
 
 pub sdc-of-spec : {M : Type 1} → statement M
 sdc-of-spec =
     tie.close
-    (tie.spec entry-count-requires rest-requires cast-result shl-result add-result returns)
+    (tie.spec entry-count-requires complement-within-requires cast-result shl-result add-result returns)

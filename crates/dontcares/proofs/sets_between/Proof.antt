@@ -4,7 +4,7 @@ use mathlib.Core.Path.{refl}
 use Prim.Native.Nat.{_≤_}
 use native.Mathlib.Omega.{arith}
 use Rattle.network.specs.Flat.{currentNet}
-use Rattle.simulate.proofs.Laws.{later}
+use Rattle.simulate.proofs.SimulationSteps.{later}
 use Rattle.dontcares.proofs.Ready.{Ready, ready}
 use Rattle.dontcares.proofs.sets_between.Statement.{statement}
 use Rattle.dontcares.proofs.sets_between.Tie as tie

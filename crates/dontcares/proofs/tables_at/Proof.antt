@@ -6,6 +6,7 @@ use Prim.Native.Nat.{ℕ, _-_, _^_}
 use native.Mathlib.Omega.{arith}
 use lib.ListN.{getD, replicate, getD-replicate}
 use denote.Ref.{now}
+use Rattle.bits.specs.Bounds.{rowWords}
 use Rattle.dontcares.proofs.TableLaws.{below, cdc-is, full-is}
 use Rattle.dontcares.proofs.tables_at.Statement.{statement}
 use Rattle.dontcares.proofs.tables_at.Tie as tie
@@ -28,8 +29,8 @@ place-requires c κs = search needs
 entry-count-requires : tie.Need-entry-count-requires
 entry-count-requires c κs = search needs
 
-rest-requires : tie.Need-rest-requires
-rest-requires c κs =
+complement-within-requires : tie.Need-complement-within-requires
+complement-within-requires c κs =
     let ec = c in
     let pl = ec .before in
     let d2 = pl .before .before in
@@ -40,8 +41,8 @@ rest-requires c κs =
     let e : ec .entry-count .result ≡ 2 ^ getD (now (a .arity)) (a .g) 0 = ec .entry-count .ensures .0 ∙ ap (λ (k : ℕ). 2 ^ k) (pl .place .ensures) in
     (omega (arith, ec .entry-count .ensures .1), below _ _ _ _ e (d1 .delivered .ensures []))
 
-rest-requires-2 : tie.Need-rest-requires-2
-rest-requires-2 c κs =
+complement-within-requires-2 : tie.Need-complement-within-requires-2
+complement-within-requires-2 c κs =
     let ec = c .before in
     let pl = ec .before in
     let d2 = pl .before .before in
@@ -62,10 +63,10 @@ returns c ts outs n m p hg ok sim framed at =
     let s = d1 .before .before in
     let a = s .args in
     let e : ec .entry-count .result ≡ 2 ^ getD (now (a .arity)) (a .g) 0 = ec .entry-count .ensures .0 ∙ ap (λ (k : ℕ). 2 ^ k) (pl .place .ensures) in (
-      c .before .rest .ensures ∙ ap (λ (i : ℕ). 2 ^ i - 1 - d1 .delivered .result) e
-          ∙ cdc-is (now (a .arity)) (now (a .fanins)) ts (now (a .excluded)) outs n m p (a .g) hg (now (a .rows)) (a .count) (a .live) ok sim framed (replicate {A = ℕ} 16 (a .live)) (d1 .delivered .result)
-          (λ w h. getD-replicate {A = ℕ} 16 w (a .live) 0 (omega arith)) (d1 .delivered .ensures ts),
-      c .rest2 .ensures ∙ ap (λ (i : ℕ). 2 ^ i - 1 - d2 .delivered2 .result) e
+      c .before .complement-within .ensures ∙ ap (λ (i : ℕ). 2 ^ i - 1 - d1 .delivered .result) e
+          ∙ cdc-is (now (a .arity)) (now (a .fanins)) ts (now (a .excluded)) outs n m p (a .g) hg (now (a .rows)) (a .count) (a .live) ok sim framed (replicate {A = ℕ} rowWords (a .live)) (d1 .delivered .result)
+          (λ w h. getD-replicate {A = ℕ} rowWords w (a .live) 0 (omega arith)) (d1 .delivered .ensures ts),
+      c .complement-within2 .ensures ∙ ap (λ (i : ℕ). 2 ^ i - 1 - d2 .delivered2 .result) e
           ∙ full-is (now (a .arity)) (now (a .fanins)) ts (now (a .excluded)) outs n m p (a .g) hg (now (a .rows)) (a .count) (a .live) ok sim framed (kr .keep-row .result) (now (a .odc)) (d2 .delivered2 .result)
           at (kr .keep-row .ensures) (d2 .delivered2 .ensures ts),
     )
@@ -80,6 +81,6 @@ tables-at-spec =
     element-copy-out-place
     place-requires
     entry-count-requires
-    rest-requires
-    rest-requires-2
+    complement-within-requires
+    complement-within-requires-2
     returns)

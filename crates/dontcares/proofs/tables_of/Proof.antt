@@ -5,6 +5,7 @@ use Prim.Native.Nat.{ℕ, _-_, _≤_}
 use native.Mathlib.Omega.{arith}
 use lib.ListN.{length, length-set}
 use denote.Ref.{now}
+use Rattle.network.specs.Bounds.{mostGates}
 use Rattle.network.specs.Flat.{netOf}
 use Rattle.dontcares.specs.Tabled.{Tabled, GatesTabled}
 use Rattle.dontcares.proofs.TableLaws.{no-tables, tables-more}
@@ -13,7 +14,7 @@ use Rattle.dontcares.proofs.tables_of.Tie as tie
 
 abbrev Inv-loop : tie.InvT-loop
 Inv-loop a e arity fanins excluded rows odc count live cdc₀ full₀ g₀ cdc full g =
-    (a ≤ g) × (g ≤ e) × (length cdc ≡ 40) × (length full ≡ 40)
+    (a ≤ g) × (g ≤ e) × (length cdc ≡ mostGates) × (length full ≡ mostGates)
     × GatesTabled arity fanins excluded rows odc count live a e cdc full g
 
 abbrev μ-loop : tie.MeasureT-loop

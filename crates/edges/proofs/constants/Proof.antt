@@ -4,17 +4,18 @@ use mathlib.Core.Path.{_≡_, refl, subst}
 use Prim.Native.Nat.{ℕ, _-_, _^_, _≤_}
 use native.Mathlib.Omega.{arith}
 use lib.ListN.{length}
+use Rattle.bits.specs.Bounds.{smallFanins, smallWords}
 use Rattle.bits.specs.Range.{places}
 use Rattle.edges.specs.Edges.{Constants}
-use Rattle.edges.proofs.Laws.{constants-none, constants-more}
+use Rattle.edges.proofs.EdgeWords.{constants-none, constants-more}
 use Rattle.edges.proofs.constants.Statement.{statement}
 use Rattle.edges.proofs.constants.Tie as tie
 
 abbrev Inv-loop : tie.InvT-loop
-Inv-loop table words₀ r₀ words r = (r ≤ 4) × (length words ≡ 16) × Constants table words (2 ^ r)
+Inv-loop table words₀ r₀ words r = (r ≤ smallFanins) × (length words ≡ smallWords) × Constants table words (2 ^ r)
 
 abbrev μ-loop : tie.MeasureT-loop
-μ-loop table words₀ r₀ words r = 4 - r
+μ-loop table words₀ r₀ words r = smallFanins - r
 
 array-write-words : tie.Need-array-write-words Inv-loop μ-loop
 array-write-words c = search needs
@@ -25,8 +26,8 @@ loop-holds c = (omega arith, refl, constants-none (c .args .table) (places 15 (�
 turned-requires : tie.Need-turned-requires Inv-loop μ-loop
 turned-requires c κs = search needs
 
-invert-requires : tie.Need-invert-requires Inv-loop μ-loop
-invert-requires c κs = search needs
+complement-requires : tie.Need-complement-requires Inv-loop μ-loop
+complement-requires c κs = search needs
 
 double-requires : tie.Need-double-requires Inv-loop μ-loop
 double-requires c κs = search needs
@@ -43,14 +44,14 @@ loop-again c =
     let l = c .before .before .before .before .before .loop in (
       omega arith,
       c .double .ensures .0,
-      constants-more (a .table) (l .words) (c .double .last .0) (l .r) (c .before .before .before .turned .result) (c .before .before .invert .result)
-          (c .before .before .before .turned .ensures) (c .before .before .invert .ensures) (c .double .ensures .1) (l .inv .2),
+      constants-more (a .table) (l .words) (c .double .last .0) (l .r) (c .before .before .before .turned .result) (c .before .before .complement .result)
+          (c .before .before .before .turned .ensures) (c .before .before .complement .ensures) (c .double .ensures .1) (l .inv .2),
     )
 
 returns : tie.Need-returns Inv-loop μ-loop
 returns c =
     let l = c .before .loop in
-    let e : l .r ≡ 4 = omega arith in
+    let e : l .r ≡ smallFanins = omega arith in
     subst (λ (r : ℕ). Constants (c .before .before .args .table) (l .words) (2 ^ r)) e (l .inv .2)
 
 pub constants-spec : {M : Type 1} → statement M
@@ -62,7 +63,7 @@ constants-spec =
     array-write-words
     loop-holds
     turned-requires
-    invert-requires
+    complement-requires
     double-requires
     add-r
     loop-less

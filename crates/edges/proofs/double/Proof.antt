@@ -1,19 +1,20 @@
 -- `edges::double` meets its contract. Assumes nothing.
 use borrow.Author.Needs.{needs}
 use mathlib.Core.Path.{_≡_, refl}
-use Prim.Native.Nat.{_-_, _^_, _≤_}
+use Prim.Native.Nat.{_-_, _/_, _^_, _≤_}
 use native.Mathlib.Omega.{arith}
 use lib.ListN.{length, length-set}
 use lib.Pow.{pow-mono}
 use denote.Ref.{now}
+use Rattle.bits.specs.Bounds.{smallWords}
 use Rattle.bits.proofs.Cuts.{one-shl}
 use Rattle.edges.specs.Edges.{Doubled}
-use Rattle.edges.proofs.Laws.{doubled-step}
+use Rattle.edges.proofs.EdgeWords.{doubled-step}
 use Rattle.edges.proofs.double.Statement.{statement}
 use Rattle.edges.proofs.double.Tie as tie
 
 abbrev Inv-loop : tie.InvT-loop
-Inv-loop words₀ r like size f₀ words f = (f ≤ size) × (size ≡ 2 ^ r) × (2 ^ r ≤ 8) × (length words ≡ 16) × Doubled words₀ words r like f
+Inv-loop words₀ r like size f₀ words f = (f ≤ size) × (size ≡ 2 ^ r) × (2 ^ r ≤ smallWords / 2) × (length words ≡ smallWords) × Doubled words₀ words r like f
 
 abbrev μ-loop : tie.MeasureT-loop
 μ-loop words₀ r like size f₀ words f = size - f

@@ -5,13 +5,14 @@ use Prim.Native.Nat.{_-_, _≤_}
 use native.Mathlib.Omega.{arith}
 use lib.ListN.{length}
 use denote.Ref.{now}
+use Rattle.network.specs.Bounds.{faninPlaces}
 use Rattle.edges.specs.Edges.{Edged}
-use Rattle.edges.proofs.Laws.{edged-step}
+use Rattle.edges.proofs.EdgeWords.{edged-step}
 use Rattle.edges.proofs.edge_tables.Statement.{statement}
 use Rattle.edges.proofs.edge_tables.Tie as tie
 
 abbrev Inv-loop : tie.InvT-loop
-Inv-loop m arity tables edges₀ g₀ edges g = (g ≤ m) × (length edges ≡ 240) × Edged arity tables edges g
+Inv-loop m arity tables edges₀ g₀ edges g = (g ≤ m) × (length edges ≡ faninPlaces) × Edged arity tables edges g
 
 abbrev μ-loop : tie.MeasureT-loop
 μ-loop m arity tables edges₀ g₀ edges g = m - g

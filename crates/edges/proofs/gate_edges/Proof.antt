@@ -7,24 +7,26 @@ use lib.Bits.{bitAnd}
 use lib.ListN.{length, getD, length-set}
 use lib.Pow.{pow-mono}
 use lib.Seq.{getD-set-other}
+use Rattle.bits.specs.Bounds.{smallFanins, smallWords}
 use Rattle.bits.proofs.Cuts.{one-shl}
 use Rattle.bits.proofs.Ranges.{entries-few}
+use Rattle.network.specs.Bounds.{faninPlaces}
 use Rattle.edges.specs.Edges.{edgeTable}
-use Rattle.edges.proofs.Laws.{Left, left-all, left-edge, left-more, filled-from}
+use Rattle.edges.proofs.EdgeWords.{AtTurn, at-turn-start, at-turn-edge, at-turn-next, filled-from}
 use Rattle.edges.proofs.gate_edges.Statement.{statement}
 use Rattle.edges.proofs.gate_edges.Tie as tie
 
 -- half of the words that are left
-half-room : (k r : ℕ) → r < k → k ≤ 4 → 2 ^ (k - 1 - r) ≤ (1 * 2 ^ (3 - r)) % 2 ^ 64
-half-room k r h hk = omega (arith, one-shl (3 - r) 64 (omega arith), pow-mono {i = k - 1 - r} {j = 3 - r} (omega arith))
+half-room : (k r : ℕ) → r < k → k ≤ smallFanins → 2 ^ (k - 1 - r) ≤ (1 * 2 ^ (smallFanins - 1 - r)) % 2 ^ 64
+half-room k r h hk = omega (arith, one-shl (smallFanins - 1 - r) 64 (omega arith), pow-mono {i = k - 1 - r} {j = smallFanins - 1 - r} (omega arith))
 
 abbrev Inv-loop : tie.InvT-loop
 Inv-loop k table at edges₀ entries words₀ r₀ edges words r =
-    (r ≤ 4) × (length edges ≡ 240) × ((q : ℕ) → q < r → q < k → getD edges (at + q) 0 ≡ edgeTable k table q) × ((q : ℕ) → q < at → getD edges q 0 ≡ getD edges₀ q 0)
-    × (entries ≡ 2 ^ (2 ^ k) - 1) × (length words ≡ 16) × (r ≤ k → Left k table words r)
+    (r ≤ smallFanins) × (length edges ≡ faninPlaces) × ((q : ℕ) → q < r → q < k → getD edges (at + q) 0 ≡ edgeTable k table q) × ((q : ℕ) → q < at → getD edges q 0 ≡ getD edges₀ q 0)
+    × (entries ≡ 2 ^ (2 ^ k) - 1) × (length words ≡ smallWords) × (r ≤ k → AtTurn k table words r)
 
 abbrev μ-loop : tie.MeasureT-loop
-μ-loop k table at edges₀ entries words₀ r₀ edges words r = 4 - r
+μ-loop k table at edges₀ entries words₀ r₀ edges words r = smallFanins - r
 
 cast-mask : tie.Need-cast-mask Inv-loop μ-loop
 cast-mask c = search needs
@@ -51,7 +53,7 @@ loop-holds c =
       λ q h. refl,
       c .before .mask .ensures .0 ∙ ap (λ (n : ℕ). 2 ^ n - 1) (one-shl (a .k) 32 (omega arith)),
       search needs,
-      λ h. left-all (a .k) (a .table) (c .constants .result) (omega arith) (c .constants .ensures),
+      λ h. at-turn-start (a .k) (a .table) (c .constants .result) (omega arith) (c .constants .ensures),
     )
 
 array-read-free : tie.Need-array-read-free Inv-loop μ-loop
@@ -75,7 +77,7 @@ shl-halve c = search needs
 halve-requires : tie.Need-halve-requires Inv-loop μ-loop
 halve-requires c κs =
     let l = c .before .before .loop in
-    (omega (arith, one-shl (3 - l .r) 64 (omega arith), pow-mono {i = 3 - l .r} {j = 3} (omega arith)), l .inv .5)
+    (omega (arith, one-shl (smallFanins - 1 - l .r) 64 (omega arith), pow-mono {i = smallFanins - 1 - l .r} {j = smallFanins - 1} (omega arith)), l .inv .5)
 
 add-r : tie.Need-add-r Inv-loop μ-loop
 add-r c = search needs
@@ -92,11 +94,11 @@ loop-again c =
       omega arith,
       simp length-set (l .inv .1),
       filled-from (l .edges) (edgeTable (a .k) (a .table)) (a .at) (l .r) (a .k) free h (l .inv .2)
-          (λ lr. ap (bitAnd (getD (l .words) 1 0)) (l .inv .4) ∙ left-edge (a .k) (a .table) (l .words) (l .r) lr (l .inv .6 (omega arith))),
+          (λ lr. ap (bitAnd (getD (l .words) 1 0)) (l .inv .4) ∙ at-turn-edge (a .k) (a .table) (l .words) (l .r) lr (l .inv .6 (omega arith))),
       λ q lq. getD-set-other (l .edges) (a .at + l .r) q free 0 (λ e. omega arith) ∙ l .inv .3 q lq,
       l .inv .4,
       c .halve .ensures .0,
-      λ lr. left-more (a .k) (a .table) (l .words) (c .halve .last .0) (l .r) _ (omega arith) (half-room (a .k) (l .r) (omega arith) (omega arith)) (c .halve .ensures .1) (l .inv .6 (omega arith)),
+      λ lr. at-turn-next (a .k) (a .table) (l .words) (c .halve .last .0) (l .r) _ (omega arith) (half-room (a .k) (l .r) (omega arith) (omega arith)) (c .halve .ensures .1) (l .inv .6 (omega arith)),
     )
 
 returns : tie.Need-returns Inv-loop μ-loop

@@ -4,7 +4,7 @@ use Prim.Native.Nat.{ℕ, _*_, _%_, _^_, _≤_, _<_}
 use native.Mathlib.Omega.{arith}
 use lib.Pow.{pow-mono}
 use Rattle.bits.proofs.Cuts.{one-shl}
-use Rattle.edges.proofs.Laws.{turned-word}
+use Rattle.edges.proofs.EdgeWords.{turned-word}
 use Rattle.edges.proofs.turned.Statement.{statement}
 use Rattle.edges.proofs.turned.Tie as tie
 

@@ -1,7 +1,7 @@
 -- `engine::counts` meets its contract. Assumes nothing.
 use mathlib.Core.Path.{sym, _∙_}
 use Rattle.network.proofs.Valid.{state-e}
-use Rattle.engine.proofs.Laws.{counts-refused}
+use Rattle.engine.proofs.ByAnswer.{counts-refused}
 use borrow.Author.Needs.{needs}
 use Rattle.engine.proofs.counts.Statement.{statement}
 use Rattle.engine.proofs.counts.Tie as tie

@@ -1,7 +1,7 @@
 -- `engine::exchange` meets its contract. Assumes nothing.
 use native.Mathlib.Omega.{arith}
 use Rattle.answers.proofs.Named.{exchange-named}
-use Rattle.engine.proofs.Laws.{exchange-refused, exchange-done}
+use Rattle.engine.proofs.ByAnswer.{exchange-refused, exchange-done}
 use borrow.Author.Needs.{needs}
 use Rattle.engine.proofs.exchange.Statement.{statement}
 use Rattle.engine.proofs.exchange.Tie as tie

@@ -5,7 +5,7 @@ use Rattle.network.specs.declared.Answer.{Answer}
 use Rattle.network.specs.declared.Answer.the-variants.{Done}
 use Rattle.network.specs.State.{stateFault}
 use Rattle.network.specs.Load.{loadDone, opened}
-use Rattle.engine.proofs.Laws.{load-refused, load-done, read-valid}
+use Rattle.engine.proofs.ByAnswer.{load-refused, load-done, read-valid}
 use borrow.Author.Needs.{needs}
 use Rattle.engine.proofs.load.Statement.{statement}
 use Rattle.engine.proofs.load.Tie as tie

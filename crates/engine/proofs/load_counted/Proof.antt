@@ -7,7 +7,7 @@ use Rattle.network.specs.State.{stateFault}
 use Rattle.network.specs.Load.{loadDone, opened}
 use Rattle.network.specs.Calls.{countsFor}
 use Rattle.engine.specs.declared.Counted.{Counted}
-use Rattle.engine.proofs.Laws.{read-valid, counted-refused, counted-done}
+use Rattle.engine.proofs.ByAnswer.{read-valid, counted-refused, counted-done}
 use borrow.Author.Needs.{needs}
 use Rattle.engine.proofs.load_counted.Statement.{statement}
 use Rattle.engine.proofs.load_counted.Tie as tie

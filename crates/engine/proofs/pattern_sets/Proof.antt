@@ -2,7 +2,7 @@
 use mathlib.Core.Path.{sym, _∙_}
 use Rattle.network.specs.Calls.{setWords, patternSetsOf}
 use Rattle.network.proofs.Valid.{state-e}
-use Rattle.engine.proofs.Laws.{filling-invalid}
+use Rattle.engine.proofs.ByAnswer.{filling-invalid}
 use borrow.Author.Needs.{needs}
 use Rattle.engine.proofs.pattern_sets.Statement.{statement}
 use Rattle.engine.proofs.pattern_sets.Tie as tie

@@ -1,7 +1,7 @@
 -- `engine::tables` meets its contract. Assumes nothing.
 use mathlib.Core.Path.{sym, _∙_}
 use Rattle.network.proofs.Valid.{state-e}
-use Rattle.engine.proofs.Laws.{tables-invalid}
+use Rattle.engine.proofs.ByAnswer.{tables-invalid}
 use borrow.Author.Needs.{needs}
 use Rattle.engine.proofs.tables.Statement.{statement}
 use Rattle.engine.proofs.tables.Tie as tie

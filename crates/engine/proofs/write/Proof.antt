@@ -3,7 +3,7 @@ use mathlib.Core.Path.{sym, _∙_}
 use Rattle.network.specs.Write.{bytesOf}
 use Rattle.network.specs.Calls.{writeOf, writtenOf}
 use Rattle.network.proofs.Valid.{state-e}
-use Rattle.engine.proofs.Laws.{filling-invalid}
+use Rattle.engine.proofs.ByAnswer.{filling-invalid}
 use borrow.Author.Needs.{needs}
 use Rattle.engine.proofs.write.Statement.{statement}
 use Rattle.engine.proofs.write.Tie as tie

@@ -30,17 +30,17 @@ minterms-requires c κs = search needs
 loop-holds : tie.Need-loop-holds Inv-loop μ-loop
 loop-holds c = (omega arith, refl)
 
-mul-some : tie.Need-mul-some Inv-loop μ-loop
-mul-some c = search needs
+mul-any-bit : tie.Need-mul-any-bit Inv-loop μ-loop
+mul-any-bit c = search needs
 
-array-read-some : tie.Need-array-read-some Inv-loop μ-loop
-array-read-some c = search needs
+array-read-any-bit : tie.Need-array-read-any-bit Inv-loop μ-loop
+array-read-any-bit c = search needs
 
-some-requires : tie.Need-some-requires Inv-loop μ-loop
-some-requires c κs = search needs
+any-bit-requires : tie.Need-any-bit-requires Inv-loop μ-loop
+any-bit-requires c κs = search needs
 
-more-requires : tie.Need-more-requires Inv-loop μ-loop
-more-requires c κs =
+with-entry-requires : tie.Need-with-entry-requires Inv-loop μ-loop
+with-entry-requires c κs =
     let e = c .before .before .before .before .entry-count .ensures in
     table-room _ _ _ (c .before .before .loop .inv .1) (omega (arith, e .1))
 
@@ -59,8 +59,8 @@ loop-again c =
     let h : l .t < 2 ^ s .k = omega (arith, e .0) in
     let test : ℕ → ℕ → Bool = λ t b. bit (s .keep) b && gives (s .k) (now (s .ins)) (now (s .frees)) t b in (
       omega arith,
-      table-step (l .t) (λ t. any 64 (test t)) (l .acc) (l .inv .1) (c .before .some .result) (c .more .result)
-          (c .before .some .ensures ∙ any-ext 64 (bit (getD (m .result) (l .t) 0)) (test (l .t)) (m .ensures (l .t) h)) (c .more .ensures),
+      table-step (l .t) (λ t. any 64 (test t)) (l .acc) (l .inv .1) (c .before .any-bit .result) (c .with-entry .result)
+          (c .before .any-bit .ensures ∙ any-ext 64 (bit (getD (m .result) (l .t) 0)) (test (l .t)) (m .ensures (l .t) h)) (c .with-entry .ensures),
     )
 
 returns : tie.Need-returns Inv-loop μ-loop
@@ -80,10 +80,10 @@ delivered-spec =
     cast-n
     minterms-requires
     loop-holds
-    mul-some
-    array-read-some
-    some-requires
-    more-requires
+    mul-any-bit
+    array-read-any-bit
+    any-bit-requires
+    with-entry-requires
     add-t
     loop-less
     loop-again

@@ -2,7 +2,7 @@
 use borrow.Author.Needs.{needs}
 use native.Mathlib.Omega.{arith}
 use denote.Ref.{now}
-use Rattle.entries.proofs.Laws.{by-agreement}
+use Rattle.entries.proofs.Delivery.{by-agreement}
 use Rattle.entries.proofs.reach.Statement.{statement}
 use Rattle.entries.proofs.reach.Tie as tie
 

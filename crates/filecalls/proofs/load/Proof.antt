@@ -1,5 +1,6 @@
 -- `filecalls::load` meets its contract. Assumes nothing.
 use borrow.Author.Needs.{needs}
+use Rattle.packed.specs.Packed.{sessionWords}
 use Rattle.boundary.proofs.Leaves.{roomy}
 use Rattle.filecalls.proofs.Loads.{load-refused, load-done}
 use Rattle.filecalls.proofs.load.Statement.{statement}
@@ -30,7 +31,7 @@ pack-requires : tie.Need-pack-requires
 pack-requires c κs =
     let k = c .before in
     let t = k .before .before in
-    roomy (t .before .load .result .answer) 427 (t .before .before .before .before .args .session .now) (t .room .ensures) (k .enum-told .given .1) .1
+    roomy (t .before .load .result .answer) sessionWords (t .before .before .before .before .args .session .now) (t .room .ensures) (k .enum-told .given .1) .1
 
 same-length : tie.Need-same-length
 same-length c = search needs

@@ -6,6 +6,7 @@ use Prim.Native.Nat.{ℕ, _+_, _-_, _*_, _^_, _≤_, _<_}
 use native.Mathlib.Omega.{arith}
 use lib.ListN.{getD}
 use denote.Ref.{now}
+use Rattle.bits.specs.Bounds.{gatePlaces}
 use Rattle.bits.specs.Bit.{bit}
 use Rattle.incremental.proofs.Updates.{mask-step}
 use Rattle.incremental.proofs.fanin_mask.Statement.{statement}
@@ -13,7 +14,7 @@ use Rattle.incremental.proofs.fanin_mask.Tie as tie
 
 abbrev Inv-loop : tie.InvT-loop
 Inv-loop arity fanins g k mask₀ r₀ mask r =
-    (r ≤ k) × ((q : ℕ) → q < r → bit mask (getD fanins (6 * g + q) 0) ≡ true)
+    (r ≤ k) × ((q : ℕ) → q < r → bit mask (getD fanins (gatePlaces * g + q) 0) ≡ true)
 
 abbrev μ-loop : tie.MeasureT-loop
 μ-loop arity fanins g k mask₀ r₀ mask r = k - r
@@ -48,7 +49,7 @@ loop-again : tie.Need-loop-again Inv-loop μ-loop
 loop-again c =
     let l = c .before .before .before in
     let a = l .before .before .before .args in
-    (omega arith, mask-step (λ q. getD (now (a .fanins)) (6 * a .g + q) 0) (l .loop .mask) (c .power .result) (l .loop .r) (l .loop .inv .1) (c .power .ensures ∙ ap (λ (k : ℕ). 2 ^ k) (c .before .fanin .ensures)))
+    (omega arith, mask-step (λ q. getD (now (a .fanins)) (gatePlaces * a .g + q) 0) (l .loop .mask) (c .power .result) (l .loop .r) (l .loop .inv .1) (c .power .ensures ∙ ap (λ (k : ℕ). 2 ^ k) (c .before .fanin .ensures)))
 
 returns : tie.Need-returns Inv-loop μ-loop
 returns c r h =

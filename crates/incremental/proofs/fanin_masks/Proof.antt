@@ -5,15 +5,16 @@ use Prim.Native.Nat.{_-_, _≤_}
 use native.Mathlib.Omega.{arith}
 use lib.ListN.{length, length-set}
 use denote.Ref.{now}
+use Rattle.network.specs.Bounds.{mostGates}
 use Rattle.incremental.specs.Updated.{Masked}
-use Rattle.simulate.proofs.Laws.{later}
+use Rattle.simulate.proofs.SimulationSteps.{later}
 use Rattle.incremental.proofs.Updates.{masked-step}
 use Rattle.incremental.proofs.fanin_masks.Statement.{statement}
 use Rattle.incremental.proofs.fanin_masks.Tie as tie
 
 abbrev Inv-loop : tie.InvT-loop
 Inv-loop n m arity fanins l₀ g₀ l g =
-    (g ≤ m) × (length l ≡ 40) × Masked arity fanins l g
+    (g ≤ m) × (length l ≡ mostGates) × Masked arity fanins l g
 
 abbrev μ-loop : tie.MeasureT-loop
 μ-loop n m arity fanins l₀ g₀ l g = m - g

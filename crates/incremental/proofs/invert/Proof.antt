@@ -8,21 +8,22 @@ use lib.Pow.{pow-mono}
 use lib.Seq.{getD-set-same, getD-set-other}
 use denote.Ref.{now}
 use Rattle.bits.specs.Bit.{bit}
+use Rattle.network.specs.Bounds.{mostGates, mostFanins, mostEntries}
 use Rattle.incremental.proofs.Updates.{complemented}
 use Rattle.incremental.proofs.invert.Statement.{statement}
 use Rattle.incremental.proofs.invert.Tie as tie
 
-long : (c : tie.Start) → length (c .args .t5) ≡ 40
+long : (c : tie.Start) → length (c .args .t5) ≡ mostGates
 long c = search needs
 
-mul-invert : tie.Need-mul-invert
-mul-invert c = search needs
+mul-complement : tie.Need-mul-complement
+mul-complement c = search needs
 
-array-read-invert : tie.Need-array-read-invert
-array-read-invert c = search needs
+array-read-complement : tie.Need-array-read-complement
+array-read-complement c = search needs
 
-invert-requires : tie.Need-invert-requires
-invert-requires c κs = search needs
+complement-requires : tie.Need-complement-requires
+complement-requires c κs = search needs
 
 mul-others : tie.Need-mul-others
 mul-others c = search needs
@@ -42,12 +43,12 @@ returns c =
     let s = i .before in
     let a = s .args in
     let ok = s .pre .0 .gate (a .g) (omega arith) in
-    let few : 2 ^ getD (now (a .arity)) (a .g) 0 ≤ 16 = pow-mono {j = 4} (ok .few) in (
+    let few : 2 ^ getD (now (a .arity)) (a .g) 0 ≤ mostEntries = pow-mono {j = mostFanins} (ok .few) in (
       c .update-from .ensures .0,
       λ w b hw hb. c .update-from .ensures .1 w hw .each b hb
           ∙ complemented (now (a .arity)) (now (a .fanins)) (a .t5) _ (a .n) (w * 64 + b) (a .g)
           (λ q d. getD-set-other (a .t5) (a .g) q _ 0 d)
-          (λ e l. ap (λ (t : ℕ). bit t e) (getD-set-same (a .t5) (a .g) _ 0 (omega (arith, s .pre .0 .most, long s))) ∙ i .invert .ensures e (omega arith))
+          (λ e l. ap (λ (t : ℕ). bit t e) (getD-set-same (a .t5) (a .g) _ 0 (omega (arith, s .pre .0 .most, long s))) ∙ i .complement .ensures e (omega arith))
           (a .m),
     )
 
@@ -55,9 +56,9 @@ pub invert-spec : {M : Type 1} → statement M
 invert-spec =
     tie.close
     (tie.spec
-    mul-invert
-    array-read-invert
-    invert-requires
+    mul-complement
+    array-read-complement
+    complement-requires
     mul-others
     array-write-others
     update-from-requires

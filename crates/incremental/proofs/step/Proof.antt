@@ -4,7 +4,7 @@ use mathlib.Core.Path.{refl}
 use native.Mathlib.Omega.{arith}
 use lib.ListN.{getD}
 use denote.Ref.{now}
-use Rattle.simulate.proofs.Laws.{later}
+use Rattle.simulate.proofs.SimulationSteps.{later}
 use Rattle.incremental.proofs.Updates.{update-skip, update-same, update-stored}
 use Rattle.incremental.proofs.step.Statement.{statement}
 use Rattle.incremental.proofs.step.Tie as tie

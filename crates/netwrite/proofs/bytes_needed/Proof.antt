@@ -2,7 +2,7 @@
 use native.Mathlib.Omega.{arith}
 use borrow.Author.Needs.{needs}
 use Rattle.network.proofs.Valid.{net-ok, outputs-ok}
-use Rattle.netwrite.proofs.Laws.{length-file}
+use Rattle.netwrite.proofs.RecordBytes.{length-file}
 use Rattle.netwrite.proofs.bytes_needed.Statement.{statement}
 use Rattle.netwrite.proofs.bytes_needed.Tie as tie
 

@@ -3,7 +3,8 @@ use mathlib.Core.Path.{_≡_, sym, ap, _∙_}
 use native.Mathlib.Omega.{arith}
 use lib.ListN.{length}
 use borrow.Author.Needs.{needs}
-use Rattle.netwrite.proofs.Laws.{excluded-none, length-excluded}
+use Rattle.network.specs.Bounds.{excludedWords}
+use Rattle.netwrite.proofs.RecordBytes.{excluded-none, length-excluded}
 use Rattle.netwrite.proofs.excluded_size.Statement.{statement}
 use Rattle.netwrite.proofs.excluded_size.Tie as tie
 
@@ -24,7 +25,7 @@ add-result c = search needs
 returns-2 : tie.Need-returns-2
 returns-2 c =
     let s = c .before .before .before .before .args .s in
-    let w : length (s .excluded) ≡ 16 = search needs in
+    let w : length (s .excluded) ≡ excludedWords = search needs in
     let z = c .set-bytes .ensures in
     let p = z .0 in
     let q = z .1 in

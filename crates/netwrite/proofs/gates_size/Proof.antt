@@ -7,7 +7,7 @@ use lib.ListN.{length, length-append}
 use borrow.Author.Needs.{needs}
 use Rattle.network.specs.Write.{gateBytes, gatesBytes}
 use Rattle.network.proofs.Valid.{net-ok}
-use Rattle.netwrite.proofs.Laws.{length-gate, gates-next, gates-done}
+use Rattle.netwrite.proofs.RecordBytes.{length-gate, gates-next, gates-done}
 use Rattle.netwrite.proofs.gates_size.Statement.{statement}
 use Rattle.netwrite.proofs.gates_size.Tie as tie
 

@@ -6,16 +6,17 @@ use lib.ListN.{length, getD, drop}
 use borrow.Author.Needs.{needs}
 use lib.ListN.{drop-of-length-le}
 use borrow.Author.Tests.{ne-eqb}
+use Rattle.network.specs.Bounds.{excludedWords}
 use Rattle.network.specs.Write.{allZero}
-use Rattle.netwrite.proofs.Laws.{zero-next, zero-not}
+use Rattle.netwrite.proofs.RecordBytes.{zero-next, zero-not}
 use Rattle.netwrite.proofs.none.Statement.{statement}
 use Rattle.netwrite.proofs.none.Tie as tie
 
 abbrev Inv-loop : tie.InvT-loop
-Inv-loop words w₀ w = (w ≤ 16) × (length words ≡ 16) × (allZero (drop w words) ≡ allZero words)
+Inv-loop words w₀ w = (w ≤ excludedWords) × (length words ≡ excludedWords) × (allZero (drop w words) ≡ allZero words)
 
 abbrev μ-loop : tie.MeasureT-loop
-μ-loop words w₀ w = 16 - w
+μ-loop words w₀ w = excludedWords - w
 
 loop-holds : tie.Need-loop-holds Inv-loop μ-loop
 loop-holds c = (omega arith, search needs, refl)

@@ -3,8 +3,9 @@ use mathlib.Core.Path.{_≡_, sym, ap, _∙_}
 use native.Mathlib.Omega.{arith}
 use lib.ListN.{length}
 use borrow.Author.Needs.{needs}
-use Rattle.buffer.proofs.Laying.{laid-length, left-start, left-done}
-use Rattle.netwrite.proofs.Laws.{excluded-none, excluded-some, length-excluded, excluded-laid}
+use Rattle.buffer.proofs.Laying.{laid-length, pending-start, pending-done}
+use Rattle.network.specs.Bounds.{excludedWords}
+use Rattle.netwrite.proofs.RecordBytes.{excluded-none, excluded-some, length-excluded, excluded-laid}
 use Rattle.netwrite.proofs.put_excluded.Statement.{statement}
 use Rattle.netwrite.proofs.put_excluded.Tie as tie
 
@@ -12,7 +13,7 @@ none-requires : tie.Need-none-requires
 none-requires c κs = search needs
 
 returns : tie.Need-returns
-returns c = left-done (left-start _ _ _) (excluded-none (c .before .before .before .before .args .s) (sym (c .before .none .ensures) ∙ c .if1 .taken))
+returns c = pending-done (pending-start _ _ _) (excluded-none (c .before .before .before .before .args .s) (sym (c .before .none .ensures) ∙ c .if1 .taken))
 
 slice-aggregate-copy : tie.Need-slice-aggregate-copy
 slice-aggregate-copy c = search needs
@@ -29,7 +30,7 @@ set-bytes-requires c κs = search needs
 put-words-requires : tie.Need-put-words-requires
 put-words-requires c κs =
     let s = c .before .before .before .before .before .before .before .before .before .before .before .args .s in
-    let w : length (s .excluded) ≡ 16 = search needs in
+    let w : length (s .excluded) ≡ excludedWords = search needs in
     let some = sym (c .before .before .before .before .before .before .before .before .none .ensures) ∙ c .before .before .before .before .before .before .before .if1 .left in
     let z = c .set-bytes .ensures .0 in
     let few = c .set-bytes .ensures .1 in

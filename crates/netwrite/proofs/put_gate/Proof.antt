@@ -4,7 +4,8 @@ use native.Mathlib.Omega.{arith}
 use lib.ListN.{length}
 use borrow.Author.Needs.{needs}
 use Rattle.buffer.proofs.Laying.{laid-length}
-use Rattle.netwrite.proofs.Laws.{gate-laid, length-gate, length-fanins}
+use Rattle.network.specs.Bounds.{faninPlaces}
+use Rattle.netwrite.proofs.RecordBytes.{gate-laid, length-gate, length-fanins}
 use Rattle.netwrite.proofs.put_gate.Statement.{statement}
 use Rattle.netwrite.proofs.put_gate.Tie as tie
 
@@ -44,13 +45,13 @@ part-copy-start c = search needs
 part-copy-end : tie.Need-part-copy-end
 part-copy-end c =
     let x = c .before .before .before .before .before .before .before .before .before .before .before .args in
-    let h : length (x .t3 .fanins) ≡ 240 = search needs in
+    let h : length (x .t3 .fanins) ≡ faninPlaces = search needs in
     omega arith
 
 copy-requires-2 : tie.Need-copy-requires-2
 copy-requires-2 c κs =
     let x = c .before .before .before .before .before .before .before .before .before .before .before .before .args in
-    let h : length (x .t3 .fanins) ≡ 240 = search needs in
+    let h : length (x .t3 .fanins) ≡ faninPlaces = search needs in
     let n = length-gate (x .t3) (x .g) in
     let f = length-fanins (x .t3) (x .g) (omega arith) in
     let opening = c .before .before .before .before .before .copy .ensures in
@@ -61,7 +62,7 @@ copy-requires-2 c κs =
 put-bytes-requires : tie.Need-put-bytes-requires
 put-bytes-requires c κs =
     let x = c .before .before .before .before .before .before .before .before .before .before .before .before .before .before .before .before .args in
-    let h : length (x .t3 .fanins) ≡ 240 = search needs in
+    let h : length (x .t3 .fanins) ≡ faninPlaces = search needs in
     let n = length-gate (x .t3) (x .g) in
     let f = length-fanins (x .t3) (x .g) (omega arith) in
     let opening = c .before .before .before .before .before .before .before .before .before .copy .ensures in
@@ -77,7 +78,7 @@ same-length c = search needs
 returns : tie.Need-returns
 returns c =
     let x = c .before .before .before .before .before .before .before .before .before .before .before .before .before .before .before .before .before .before .before .args in
-    let h : length (x .t3 .fanins) ≡ 240 = search needs in
+    let h : length (x .t3 .fanins) ≡ faninPlaces = search needs in
     let opening = c .before .before .before .before .before .before .before .before .before .before .before .before .copy .ensures in
     let fanins = c .before .before .before .before .before .before .copy2 .ensures in
     gate-laid (x .t3) (x .g) (omega arith) opening fanins (c .before .before .put-bytes .ensures)

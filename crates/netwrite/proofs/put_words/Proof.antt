@@ -7,21 +7,22 @@ use lib.ListN.{length, getD, take, drop}
 use borrow.Author.Needs.{needs}
 use Rattle.bits.specs.Lists.{bytesIn}
 use Rattle.bits.proofs.Bytes.{length-bytes}
-use Rattle.buffer.proofs.Laying.{Left, laid-length, left-start, left-step, left-done}
+use Rattle.buffer.proofs.Laying.{Pending, laid-length, pending-start, pending-step, pending-done}
+use Rattle.network.specs.Bounds.{excludedWords}
 use Rattle.network.specs.Write.{wordBytes}
-use Rattle.netwrite.proofs.Laws.{words-next, words-part}
+use Rattle.netwrite.proofs.RecordBytes.{words-next, words-part}
 use Rattle.netwrite.proofs.put_words.Statement.{statement}
 use Rattle.netwrite.proofs.put_words.Tie as tie
 
 abbrev Inv-loop : tie.InvT-loop
 Inv-loop buf₀ at z words a₀ left₀ w₀ buf a left w =
-    (8 * w + left ≡ z) × (a + left ≡ at + z) × (length words ≡ 16) × Left buf₀ at (take z (wordBytes words)) buf a (take left (wordBytes (drop w words)))
+    (8 * w + left ≡ z) × (a + left ≡ at + z) × (length words ≡ excludedWords) × Pending buf₀ at (take z (wordBytes words)) buf a (take left (wordBytes (drop w words)))
 
 abbrev μ-loop : tie.MeasureT-loop
 μ-loop buf₀ at z words a₀ left₀ w₀ buf a left w = left
 
 loop-holds : tie.Need-loop-holds Inv-loop μ-loop
-loop-holds c = (omega arith, refl, search needs, left-start _ _ _)
+loop-holds c = (omega arith, refl, search needs, pending-start _ _ _)
 
 mul-put-bytes : tie.Need-mul-put-bytes Inv-loop μ-loop
 mul-put-bytes c = search needs
@@ -49,7 +50,7 @@ loop-again c =
     let q = r .ensures .behind in
     let m = length-bytes 8 (getD (x .t3) (h .w) 0) in
     let e = words-next (x .t3) (h .left) (h .w) (omega arith) (omega arith) in
-    (omega arith, omega arith, n, left-step (take (h .left - 8) (wordBytes (drop (h .w + 1) (x .t3)))) (h .inv .3) e (r .ensures))
+    (omega arith, omega arith, n, pending-step (take (h .left - 8) (wordBytes (drop (h .w + 1) (x .t3)))) (h .inv .3) e (r .ensures))
 
 mul-put-bytes-2 : tie.Need-mul-put-bytes-2 Inv-loop μ-loop
 mul-put-bytes-2 c = search needs
@@ -72,7 +73,7 @@ returns c =
     let h = c .before .before .before .before .before .before .loop in
     let n = h .inv .2 in
     let e = words-part (x .t3) (h .left) (h .w) (omega arith) (omega arith) ∙ sym (append-nil (bytesIn (h .left) (getD (x .t3) (h .w) 0))) in
-    left-done (left-step [] (h .inv .3) e (c .before .before .put-bytes2 .ensures)) refl
+    pending-done (pending-step [] (h .inv .3) e (c .before .before .put-bytes2 .ensures)) refl
 
 same-length-2 : tie.Need-same-length-2 Inv-loop μ-loop
 same-length-2 c = search needs
@@ -81,7 +82,7 @@ returns-2 : tie.Need-returns-2 Inv-loop μ-loop
 returns-2 c =
     let h = c .before .before .loop in
     let z : h .left ≡ 0 = omega arith in
-    left-done (h .inv .3) (rw z)
+    pending-done (h .inv .3) (rw z)
 
 pub put-words-spec : {M : Type 1} → statement M
 put-words-spec =

@@ -3,10 +3,10 @@ use mathlib.Core.Path.{refl, sym}
 use mathlib.Core.List.{[], append-nil}
 use native.Mathlib.Omega.{arith}
 use borrow.Author.Needs.{needs}
-use Rattle.buffer.proofs.Laying.{laid-start, left-step, left-room}
+use Rattle.buffer.proofs.Laying.{laid-start, pending-step, pending-room}
 use Rattle.network.specs.Write.{excludedBytes, gatesBytes, outputsBytes, bytesOf}
 use Rattle.network.proofs.Valid.{net-ok, outputs-ok}
-use Rattle.netwrite.proofs.Laws.{file-laid, after-header, afterExcluded, length-file}
+use Rattle.netwrite.proofs.RecordBytes.{file-laid, after-header, afterExcluded, length-file}
 use Rattle.netwrite.proofs.write_bytes.Statement.{statement}
 use Rattle.netwrite.proofs.write_bytes.Tie as tie
 
@@ -21,24 +21,24 @@ put-excluded-requires c κs =
     let start = c .before .before .before .before .before .before .before in
     let s = start .args .s in
     let a = after-header s (c .before .before .before .copy .ensures) in
-    (net-ok s (start .pre .0) .ins, left-room (excludedBytes s) (afterExcluded s) a refl (omega arith))
+    (net-ok s (start .pre .0) .ins, pending-room (excludedBytes s) (afterExcluded s) a refl (omega arith))
 
 put-gates-requires : tie.Need-put-gates-requires
 put-gates-requires c κs =
     let start = c .before .before .before .before .before .before .before .before .before .before .before in
     let s = start .args .s in
     let a = after-header s (c .before .before .before .before .before .before .before .copy .ensures) in
-    let b = left-step (afterExcluded s) a refl (c .before .before .before .put-excluded .ensures) in
-    (start .pre .0, left-room (gatesBytes s (s .m) 0) (outputsBytes s (s .p) 0) b refl (omega arith))
+    let b = pending-step (afterExcluded s) a refl (c .before .before .before .put-excluded .ensures) in
+    (start .pre .0, pending-room (gatesBytes s (s .m) 0) (outputsBytes s (s .p) 0) b refl (omega arith))
 
 put-outputs-requires : tie.Need-put-outputs-requires
 put-outputs-requires c κs =
     let start = c .before .before .before .before .before .before .before .before .before .before .before .before .before .before .before in
     let s = start .args .s in
     let a = after-header s (c .before .before .before .before .before .before .before .before .before .before .before .copy .ensures) in
-    let b = left-step (afterExcluded s) a refl (c .before .before .before .before .before .before .before .put-excluded .ensures) in
-    let d = left-step (outputsBytes s (s .p) 0) b refl (c .before .before .before .put-gates .ensures) in
-    (outputs-ok s (start .pre .0) .most, left-room (outputsBytes s (s .p) 0) [] d (sym (append-nil (outputsBytes s (s .p) 0))) (omega arith))
+    let b = pending-step (afterExcluded s) a refl (c .before .before .before .before .before .before .before .put-excluded .ensures) in
+    let d = pending-step (outputsBytes s (s .p) 0) b refl (c .before .before .before .put-gates .ensures) in
+    (outputs-ok s (start .pre .0) .most, pending-room (outputsBytes s (s .p) 0) [] d (sym (append-nil (outputsBytes s (s .p) 0))) (omega arith))
 
 same-length : tie.Need-same-length
 same-length c = search needs

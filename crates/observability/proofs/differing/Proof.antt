@@ -6,13 +6,14 @@ use native.Mathlib.Omega.{arith}
 use lib.Bits.{bitOr, bitXor}
 use lib.ListN.{length, getD, length-set}
 use denote.Ref.{now}
+use Rattle.bits.specs.Bounds.{rowWords}
 use Rattle.bits.proofs.Ranges.{Changed, unchanged, changed-step}
 use Rattle.observability.proofs.differing.Statement.{statement}
 use Rattle.observability.proofs.differing.Tie as tie
 
 abbrev Inv-loop : tie.InvT-loop
 Inv-loop seen₀ rows other s count w₀ seen w =
-    (w ≤ count) × (length seen ≡ 16) × Changed (λ q x. bitOr x (bitXor (getD rows (16 * s + q) 0) (getD other (16 * s + q) 0))) seen₀ seen w
+    (w ≤ count) × (length seen ≡ rowWords) × Changed (λ q x. bitOr x (bitXor (getD rows (rowWords * s + q) 0) (getD other (rowWords * s + q) 0))) seen₀ seen w
 
 abbrev μ-loop : tie.MeasureT-loop
 μ-loop seen₀ rows other s count w₀ seen w = count - w
@@ -20,7 +21,7 @@ abbrev μ-loop : tie.MeasureT-loop
 loop-holds : tie.Need-loop-holds Inv-loop μ-loop
 loop-holds c =
     let a = c .args in
-    (omega arith, c .pre .1, unchanged (λ q x. bitOr x (bitXor (getD (now (a .rows)) (16 * a .s + q) 0) (getD (now (a .other)) (16 * a .s + q) 0))) (now (a .seen)))
+    (omega arith, c .pre .1, unchanged (λ q x. bitOr x (bitXor (getD (now (a .rows)) (rowWords * a .s + q) 0) (getD (now (a .other)) (rowWords * a .s + q) 0))) (now (a .seen)))
 
 mul-v : tie.Need-mul-v Inv-loop μ-loop
 mul-v c = search needs
@@ -68,7 +69,7 @@ loop-again : tie.Need-loop-again Inv-loop μ-loop
 loop-again c =
     let l = c .before .before .before .before in
     let a = l .before .args in
-    (omega arith, simp length-set (l .loop .inv .1), changed-step (λ q x. bitOr x (bitXor (getD (now (a .rows)) (16 * a .s + q) 0) (getD (now (a .other)) (16 * a .s + q) 0))) (now (a .seen)) (l .loop .seen) (l .loop .w) _ (omega arith) (l .loop .inv .2) refl)
+    (omega arith, simp length-set (l .loop .inv .1), changed-step (λ q x. bitOr x (bitXor (getD (now (a .rows)) (rowWords * a .s + q) 0) (getD (now (a .other)) (rowWords * a .s + q) 0))) (now (a .seen)) (l .loop .seen) (l .loop .w) _ (omega arith) (l .loop .inv .2) refl)
 
 returns : tie.Need-returns Inv-loop μ-loop
 returns c =

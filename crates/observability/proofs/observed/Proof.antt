@@ -5,6 +5,7 @@ use Prim.Native.Nat.{ℕ, _-_, _≤_, _<_}
 use native.Mathlib.Omega.{arith}
 use lib.ListN.{length, getD, getD-replicate}
 use denote.Ref.{now}
+use Rattle.bits.specs.Bounds.{rowWords}
 use Rattle.bits.specs.Range.{any}
 use Rattle.bits.specs.Bit.{bit}
 use Rattle.bits.proofs.BitLaws.{bit-zero}
@@ -14,14 +15,14 @@ use Rattle.observability.proofs.observed.Tie as tie
 
 abbrev Inv-loop : tie.InvT-loop
 Inv-loop p outputs rows other count l₀ i₀ l i =
-    (i ≤ p) × (length l ≡ 16) × ((w b : ℕ) → w < count → b < 64 → bit (getD l w 0) b ≡ any i (differing outputs rows other w b))
+    (i ≤ p) × (length l ≡ rowWords) × ((w b : ℕ) → w < count → b < 64 → bit (getD l w 0) b ≡ any i (differing outputs rows other w b))
 
 abbrev μ-loop : tie.MeasureT-loop
 μ-loop p outputs rows other count l₀ i₀ l i = p - i
 
 loop-holds : tie.Need-loop-holds Inv-loop μ-loop
 loop-holds c =
-    (omega arith, refl, λ w b h k. ap (λ (x : ℕ). bit x b) (getD-replicate {A = ℕ} 16 w 0 0 (omega arith)) ∙ bit-zero b)
+    (omega arith, refl, λ w b h k. ap (λ (x : ℕ). bit x b) (getD-replicate {A = ℕ} rowWords w 0 0 (omega arith)) ∙ bit-zero b)
 
 element-copy-out-place : tie.Need-element-copy-out-place Inv-loop μ-loop
 element-copy-out-place c = omega (arith, c .before .before .pre .0 .most)

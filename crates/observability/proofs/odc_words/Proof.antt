@@ -6,8 +6,10 @@ use Prim.Native.Nat.{ℕ, _+_, _-_, _*_, _≤_, _<_}
 use native.Mathlib.Omega.{arith}
 use lib.ListN.{length}
 use denote.Ref.{now}
+use Rattle.bits.specs.Bounds.{rowWords}
 use Rattle.bits.specs.Range.{places}
 use Rattle.bits.specs.Bit.{bit}
+use Rattle.network.specs.Bounds.{mostGates, signalWords, gateWords}
 use Rattle.network.specs.Flat.{gatesOf, netOf}
 use Rattle.simulate.specs.Simulated.{Rows}
 use Rattle.observability.specs.Odc.{OdcAt}
@@ -19,13 +21,13 @@ use Rattle.observability.proofs.odc_words.Tie as tie
 
 abbrev Inv-loop : tie.InvT-loop
 Inv-loop n m arity fanins tables p outs rows count live a e odc₀ masks other₀ g₀ odc other g =
-    (length odc ≡ 640) × ((ex : List ℕ) (h : ℕ) → a ≤ h → h < g → OdcAt (netOf arity fanins tables n m ex outs p) odc n h count)
-    × (length other ≡ 800) × Rows arity fanins tables other n m count
+    (length odc ≡ gateWords) × ((ex : List ℕ) (h : ℕ) → a ≤ h → h < g → OdcAt (netOf arity fanins tables n m ex outs p) odc n h count)
+    × (length other ≡ signalWords) × Rows arity fanins tables other n m count
 
 abbrev μ-loop : tie.MeasureT-loop
 μ-loop n m arity fanins tables p outs rows count live a e odc₀ masks other₀ g₀ odc other g = e - g
 
-few : (s : tie.Start Inv-loop μ-loop) → (s .args .e ≤ 40) × (s .args .count ≤ 16)
+few : (s : tie.Start Inv-loop μ-loop) → (s .args .e ≤ mostGates) × (s .args .count ≤ rowWords)
 few s = (omega (arith, s .pre .0 .most), s .pre .1 .1 .1 .0 .cut .words)
 
 fanin-masks-requires : tie.Need-fanin-masks-requires Inv-loop μ-loop

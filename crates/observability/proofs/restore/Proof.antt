@@ -4,13 +4,14 @@ use mathlib.Core.Path.{refl}
 use Prim.Native.Nat.{_-_, _*_, _≤_}
 use native.Mathlib.Omega.{arith}
 use denote.Ref.{now}
+use Rattle.bits.specs.Bounds.{rowWords}
 use Rattle.observability.specs.Odc.{Taken}
 use Rattle.observability.proofs.OdcLaws.{taken-step}
 use Rattle.observability.proofs.restore.Statement.{statement}
 use Rattle.observability.proofs.restore.Tie as tie
 
 abbrev Inv-loop : tie.InvT-loop
-Inv-loop other₀ rows s e end i₀ other i = (16 * s ≤ i) × Taken rows other₀ other (16 * s) i
+Inv-loop other₀ rows s e end i₀ other i = (rowWords * s ≤ i) × Taken rows other₀ other (rowWords * s) i
 
 abbrev μ-loop : tie.MeasureT-loop
 μ-loop other₀ rows s e end i₀ other i = end - i
@@ -46,7 +47,7 @@ loop-again : tie.Need-loop-again Inv-loop μ-loop
 loop-again c =
     let l = c .before .before in
     let a = l .before .args in
-    (omega arith, taken-step (now (a .rows)) (now (a .other)) (l .loop .other) (16 * a .s) (l .loop .i) (l .loop .inv .0) (omega arith) (l .loop .inv .1))
+    (omega arith, taken-step (now (a .rows)) (now (a .other)) (l .loop .other) (rowWords * a .s) (l .loop .i) (l .loop .inv .0) (omega arith) (l .loop .inv .1))
 
 returns : tie.Need-returns Inv-loop μ-loop
 returns c =

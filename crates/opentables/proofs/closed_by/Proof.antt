@@ -5,7 +5,7 @@ use Prim.Native.Nat.{ℕ, _-_, _^_, _≤_}
 use native.Mathlib.Omega.{arith}
 use denote.Ref.{now}
 use Rattle.opentables.specs.Closed.{closedBy}
-use Rattle.opentables.proofs.Laws.{closed-first, closed-step, closed-all}
+use Rattle.opentables.proofs.ClosedWords.{closed-first, closed-step, closed-all}
 use Rattle.opentables.proofs.closed_by.Statement.{statement}
 use Rattle.opentables.proofs.closed_by.Tie as tie
 

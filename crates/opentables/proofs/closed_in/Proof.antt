@@ -10,7 +10,7 @@ use Rattle.bits.specs.Bit.{bit}
 use Rattle.bits.proofs.BitLaws.{bit-and}
 use Rattle.simulate.specs.Simulated.{wordsAt}
 use Rattle.simulate.proofs.RowLaws.{words-at}
-use Rattle.opentables.proofs.Laws.{closed-in-is}
+use Rattle.opentables.proofs.ClosedWords.{closed-in-is}
 use Rattle.opentables.proofs.closed_in.Statement.{statement}
 use Rattle.opentables.proofs.closed_in.Tie as tie
 
@@ -20,23 +20,23 @@ gather-at-requires c κs = search needs
 gather-at-requires-2 : tie.Need-gather-at-requires-2
 gather-at-requires-2 c κs = search needs
 
-add-invert : tie.Need-add-invert
-add-invert c = search needs
+add-complement : tie.Need-add-complement
+add-complement c = search needs
 
-mul-invert : tie.Need-mul-invert
-mul-invert c = search needs
+mul-complement : tie.Need-mul-complement
+mul-complement c = search needs
 
-add-invert-2 : tie.Need-add-invert-2
-add-invert-2 c = search needs
+add-complement-2 : tie.Need-add-complement-2
+add-complement-2 c = search needs
 
-mul-invert-2 : tie.Need-mul-invert-2
-mul-invert-2 c = search needs
+mul-complement-2 : tie.Need-mul-complement-2
+mul-complement-2 c = search needs
 
-element-copy-out-invert : tie.Need-element-copy-out-invert
-element-copy-out-invert c = search needs
+element-copy-out-complement : tie.Need-element-copy-out-complement
+element-copy-out-complement c = search needs
 
-invert-requires : tie.Need-invert-requires
-invert-requires c κs = search needs
+complement-requires : tie.Need-complement-requires
+complement-requires c κs = search needs
 
 element-copy-out-place : tie.Need-element-copy-out-place
 element-copy-out-place c = search needs
@@ -55,10 +55,10 @@ returns c =
     let g1 = g2 .before in
     let a = g1 .before .args in
     c .reach .ensures
-    ∙ closed-in-is (now (a .arity)) (now (a .fanins)) (wordsAt (now (a .rows)) (a .w)) (wordsAt (now (a .hs)) (a .w)) (g1 .gather-at .result) (g2 .gather-at2 .result) (a .n) (a .live) (a .g) (pl .place .result) (bitAnd (a .live) (i .invert .result))
+    ∙ closed-in-is (now (a .arity)) (now (a .fanins)) (wordsAt (now (a .rows)) (a .w)) (wordsAt (now (a .hs)) (a .w)) (g1 .gather-at .result) (g2 .gather-at2 .result) (a .n) (a .live) (a .g) (pl .place .result) (bitAnd (a .live) (i .complement .result))
     (pl .place .ensures) (g1 .gather-at .ensures) (g2 .gather-at2 .ensures)
-    (λ b h. bit-and (a .live) (i .invert .result) b
-    ∙ ap (λ (x : Bool). bit (a .live) b && x) (i .invert .ensures b h ∙ ap (λ (y : ℕ). not (bit y b)) (sym (words-at (now (a .hs)) (a .w) (a .n + a .g) (omega arith)))))
+    (λ b h. bit-and (a .live) (i .complement .result) b
+    ∙ ap (λ (x : Bool). bit (a .live) b && x) (i .complement .ensures b h ∙ ap (λ (y : ℕ). not (bit y b)) (sym (words-at (now (a .hs)) (a .w) (a .n + a .g) (omega arith)))))
 
 pub closed-in-spec : {M : Type 1} → statement M
 closed-in-spec =
@@ -66,12 +66,12 @@ closed-in-spec =
     (tie.spec
     gather-at-requires
     gather-at-requires-2
-    add-invert
-    mul-invert
-    add-invert-2
-    mul-invert-2
-    element-copy-out-invert
-    invert-requires
+    add-complement
+    mul-complement
+    add-complement-2
+    mul-complement-2
+    element-copy-out-complement
+    complement-requires
     element-copy-out-place
     place-requires
     reach-requires

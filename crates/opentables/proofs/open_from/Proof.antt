@@ -7,19 +7,20 @@ use lib.ListN.{length, replicate, length-set}
 use denote.Ref.{now}
 use Rattle.bits.proofs.Ranges.{Changed, unchanged, changed-step}
 use Rattle.network.specs.declared.Session.{Session}
+use Rattle.network.specs.Bounds.{mostGates, mostSignals}
 use Rattle.network.specs.Valid.{GateOk, NetOk}
-use Rattle.simulate.proofs.Laws.{later}
+use Rattle.simulate.proofs.SimulationSteps.{later}
 use Rattle.compatible.proofs.Stores.{per-gate}
 use Rattle.compatible.proofs.Loaded.{net-fine}
 use Rattle.opentables.specs.Closed.{openBy}
-use Rattle.opentables.proofs.Laws.{closed-lt, open-by-is}
+use Rattle.opentables.proofs.ClosedWords.{closed-lt, open-by-is}
 use Rattle.opentables.proofs.Opened.{opens-are}
 use Rattle.opentables.proofs.open_from.Statement.{statement}
 use Rattle.opentables.proofs.open_from.Tie as tie
 
 abbrev Inv-loop : tie.InvT-loop
 Inv-loop rows hs live count n m arity fanins opens₀ g₀ opens g =
-    (g ≤ m) × (length opens ≡ 40) × Changed (λ q v. openBy arity fanins rows hs n live count q) (replicate 40 0) opens g
+    (g ≤ m) × (length opens ≡ mostGates) × Changed (λ q v. openBy arity fanins rows hs n live count q) (replicate mostGates 0) opens g
 
 abbrev μ-loop : tie.MeasureT-loop
 μ-loop rows hs live count n m arity fanins opens₀ g₀ opens g = m - g
@@ -34,7 +35,7 @@ net c =
     let n = m .before in
     net-fine (held c) _ _ _ (n .place .ensures) (m .place2 .ensures) refl (n .before .pre .0) .0
 
-gate-ok : (c : tie.In-loop Inv-loop μ-loop) → GateOk (held (c .before .before) .arity) (held (c .before .before) .fanins) (c .before .loop .g) 50
+gate-ok : (c : tie.In-loop Inv-loop μ-loop) → GateOk (held (c .before .before) .arity) (held (c .before .before) .fanins) (c .before .loop .g) mostSignals
 gate-ok c =
     let ok = net (c .before .before) in
     later (omega (arith, ok .ins, ok .most)) (ok .gate (c .before .loop .g) (omega arith))
@@ -53,7 +54,7 @@ place-requires-2 : tie.Need-place-requires-2 Inv-loop μ-loop
 place-requires-2 c κs = search needs
 
 loop-holds : tie.Need-loop-holds Inv-loop μ-loop
-loop-holds c = (omega arith, refl, unchanged (λ q v. table c q) (replicate 40 0))
+loop-holds c = (omega arith, refl, unchanged (λ q v. table c q) (replicate mostGates 0))
 
 array-read-place : tie.Need-array-read-place Inv-loop μ-loop
 array-read-place c = omega (arith, net (c .before .before) .most)
@@ -71,8 +72,8 @@ closed-by-requires c κs =
     let ok = net f in
     ((ok .ins, omega (arith, ok .most), f .before .before .before .before .pre .1 .sets .frame .cut .words), gate-ok t)
 
-rest-requires : tie.Need-rest-requires Inv-loop μ-loop
-rest-requires c κs =
+complement-within-requires : tie.Need-complement-within-requires Inv-loop μ-loop
+complement-within-requires c κs =
     let e = c .before .before .before in
     let pl = e .before in
     let l = pl .before .before in
@@ -106,8 +107,8 @@ loop-again c =
     let a = n .before .args in (
       omega arith,
       simp length-set (l .loop .inv .1),
-      changed-step (λ q v. table f q) (replicate 40 0) (l .loop .opens) (l .loop .g) (c .rest .result) (omega (arith, net f .most)) (l .loop .inv .2)
-          (c .rest .ensures ∙ ap (λ (k : ℕ). 2 ^ k - 1 - h .closed-by .result) (e .entry-count .ensures .0 ∙ ap (λ (k : ℕ). 2 ^ k) (pl .place3 .ensures))
+      changed-step (λ q v. table f q) (replicate mostGates 0) (l .loop .opens) (l .loop .g) (c .complement-within .result) (omega (arith, net f .most)) (l .loop .inv .2)
+          (c .complement-within .ensures ∙ ap (λ (k : ℕ). 2 ^ k - 1 - h .closed-by .result) (e .entry-count .ensures .0 ∙ ap (λ (k : ℕ). 2 ^ k) (pl .place3 .ensures))
           ∙ open-by-is (a .s .arity) (a .s .fanins) (now (a .rows)) (now (a .hs)) (n .place .result) (a .live) (l .loop .g) (a .count) (h .closed-by .result) (h .closed-by .ensures)),
     )
 
@@ -119,7 +120,7 @@ returns c =
     let n = m .before in
     let s = n .before in
     let e : l .g ≡ m .place2 .result = omega arith in
-    per-gate (l .opens) (table f) (m .place2 .result) (l .inv .1) (subst (λ (k : ℕ). Changed (λ q v. table f q) (replicate 40 0) (l .opens) k) e (l .inv .2))
+    per-gate (l .opens) (table f) (m .place2 .result) (l .inv .1) (subst (λ (k : ℕ). Changed (λ q v. table f q) (replicate mostGates 0) (l .opens) k) e (l .inv .2))
     ∙ opens-are (held f) _ _ (n .place .ensures) (m .place2 .ensures) (s .pre .0) (s .pre .1)
 
 pub open-from-spec : {M : Type 1} → statement M
@@ -135,7 +136,7 @@ open-from-spec =
     place-requires-3
     entry-count-requires
     closed-by-requires
-    rest-requires
+    complement-within-requires
     mul-opens
     array-write-opens
     add-g

@@ -8,7 +8,7 @@ use lib.Dec.{ltb}
 use lib.ListN.{getD}
 use borrow.Author.Needs.{needs}
 use Rattle.bits.specs.Range.{every}
-use Rattle.packed.proofs.Laws.{or-fits}
+use Rattle.packed.proofs.Reading.{or-fits}
 use Rattle.packed.proofs.fit.Statement.{statement}
 use Rattle.packed.proofs.fit.Tie as tie
 

@@ -12,20 +12,20 @@ use Rattle.bits.specs.Lists.{overwritten}
 use Rattle.buffer.proofs.Laying.{laid-start, lay-two}
 use Rattle.network.specs.declared.Session.{Session}
 use Rattle.network.specs.Valid.{Shaped}
-use Rattle.packed.specs.Packed.{bytesHeld, wordsHeld, packedOf}
-use Rattle.packed.proofs.Laws.{length-bytes}
+use Rattle.packed.specs.Packed.{bytesHeld, wordsHeld, packedOf, excludedStart, sessionWords}
+use Rattle.packed.proofs.Reading.{length-bytes}
 use Rattle.packed.proofs.Inverse.{packed-length}
 use Rattle.packed.proofs.pack.Statement.{statement}
 use Rattle.packed.proofs.pack.Tie as tie
 
 -- the two stretches as one, at the start of b
-packs : {b₁ b₂ : List ℕ} (b : List ℕ) (s : Session) → Shaped s → 427 ≤ length b → b₁ ≡ sets b 0 (bytesHeld s) → b₂ ≡ sets b₁ 291 (wordsHeld s)
+packs : {b₁ b₂ : List ℕ} (b : List ℕ) (s : Session) → Shaped s → sessionWords ≤ length b → b₁ ≡ sets b 0 (bytesHeld s) → b₂ ≡ sets b₁ excludedStart (wordsHeld s)
     → b₂ ≡ overwritten (packedOf s) b
 unfolding packedOf
 packs {b₁} {b₂} b s z h e f =
     let n = packed-length s z in
     let p = length-bytes s z in
-    let l = lay-two b (bytesHeld s) (wordsHeld s) 0 291 e f (omega arith) in
+    let l = lay-two b (bytesHeld s) (wordsHeld s) 0 excludedStart e f (omega arith) in
     laid-start b (packedOf s) b₂ (0 + length (packedOf s)) (omega arith) (record { buffer = l; behind = refl }) .1
 
 pack-bytes-requires : tie.Need-pack-bytes-requires

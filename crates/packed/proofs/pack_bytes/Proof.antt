@@ -5,6 +5,8 @@ use native.Mathlib.Omega.{arith}
 use lib.ListN.{length}
 use borrow.Author.Needs.{needs}
 use Rattle.buffer.proofs.Laying.{lay-four}
+use Rattle.network.specs.Bounds.{mostGates, faninPlaces}
+use Rattle.packed.specs.Packed.{arityStart, faninsStart, outputsStart}
 use Rattle.packed.proofs.pack_bytes.Statement.{statement}
 use Rattle.packed.proofs.pack_bytes.Tie as tie
 
@@ -39,9 +41,9 @@ returns : tie.Need-returns
 returns c =
     let start = c .before .before .before .before .before .before .before .before .before .before .before .before .before .before .before .before .before .before .before .before .before .before .before .before in
     let s = start .args .s in
-    let arities : length (s .arity) ≡ 40 = search needs in
-    let slots : length (s .fanins) ≡ 240 = search needs in
-    lay-four (start .args .words .now) (s .n ∷ s .m ∷ s .p ∷ []) (s .arity) (s .fanins) (s .outputs) 0 3 43 283
+    let arities : length (s .arity) ≡ mostGates = search needs in
+    let slots : length (s .fanins) ≡ faninPlaces = search needs in
+    lay-four (start .args .words .now) (s .n ∷ s .m ∷ s .p ∷ []) (s .arity) (s .fanins) (s .outputs) 0 arityStart faninsStart outputsStart
     (c .before .before .before .before .before .before .before .before .before .before .before .before .before .before .before .before .before .lay-bytes .ensures)
     (c .before .before .before .before .before .before .before .before .before .before .before .before .lay-bytes2 .ensures)
     (c .before .before .before .before .before .before .before .lay-bytes3 .ensures)

@@ -4,6 +4,8 @@ use native.Mathlib.Omega.{arith}
 use lib.ListN.{length}
 use borrow.Author.Needs.{needs}
 use Rattle.buffer.proofs.Laying.{lay-four}
+use Rattle.network.specs.Bounds.{mostGates, excludedWords}
+use Rattle.packed.specs.Packed.{excludedStart, loadedStart, currentStart, openStart}
 use Rattle.packed.proofs.pack_words.Statement.{statement}
 use Rattle.packed.proofs.pack_words.Tie as tie
 
@@ -38,10 +40,10 @@ returns : tie.Need-returns
 returns c =
     let start = c .before .before .before .before .before .before .before .before .before .before .before .before .before .before .before .before .before .before .before .before .before .before .before .before .before in
     let s = start .args .s in
-    let words : length (s .excluded) ≡ 16 = search needs in
-    let loads : length (s .loaded) ≡ 40 = search needs in
-    let currents : length (s .current) ≡ 40 = search needs in
-    lay-four (start .args .words .now) (s .excluded) (s .loaded) (s .current) (s .open_tables) 291 307 347 387
+    let words : length (s .excluded) ≡ excludedWords = search needs in
+    let loads : length (s .loaded) ≡ mostGates = search needs in
+    let currents : length (s .current) ≡ mostGates = search needs in
+    lay-four (start .args .words .now) (s .excluded) (s .loaded) (s .current) (s .open_tables) excludedStart loadedStart currentStart openStart
     (c .before .before .before .before .before .before .before .before .before .before .before .before .before .before .before .before .before .lay-words .ensures)
     (c .before .before .before .before .before .before .before .before .before .before .before .before .lay-words2 .ensures)
     (c .before .before .before .before .before .before .before .lay-words3 .ensures)

@@ -6,7 +6,7 @@ use native.Mathlib.Omega.{arith}
 use lib.ListN.{length, drop, length-set}
 use borrow.Author.Needs.{needs}
 use Rattle.packed.specs.Packed.{part}
-use Rattle.packed.proofs.Laws.{read-more, read-all}
+use Rattle.packed.proofs.Reading.{read-more, read-all}
 use Rattle.packed.proofs.read_words.Statement.{statement}
 use Rattle.packed.proofs.read_words.Tie as tie
 

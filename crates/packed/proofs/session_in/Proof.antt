@@ -2,7 +2,8 @@
 use Prim.Native.Nat.{_+_}
 use native.Mathlib.Omega.{arith}
 use borrow.Author.Needs.{needs}
-use Rattle.packed.proofs.Laws.{reads}
+use Rattle.packed.specs.Packed.{arityStart, faninsStart, outputsStart}
+use Rattle.packed.proofs.Reading.{reads}
 use Rattle.packed.proofs.session_in.Statement.{statement}
 use Rattle.packed.proofs.session_in.Tie as tie
 
@@ -10,19 +11,19 @@ slice-aggregate-read-bytes : tie.Need-slice-aggregate-read-bytes
 slice-aggregate-read-bytes c = search needs
 
 read-bytes-requires : tie.Need-read-bytes-requires
-read-bytes-requires c κs = (omega arith, λ i h. c .before .before .pre .1 (3 + i) (omega arith))
+read-bytes-requires c κs = (omega arith, λ i h. c .before .before .pre .1 (arityStart + i) (omega arith))
 
 slice-aggregate-read-bytes-2 : tie.Need-slice-aggregate-read-bytes-2
 slice-aggregate-read-bytes-2 c = search needs
 
 read-bytes-requires-2 : tie.Need-read-bytes-requires-2
-read-bytes-requires-2 c κs = (omega arith, λ i h. c .before .before .before .before .before .pre .1 (43 + i) (omega arith))
+read-bytes-requires-2 c κs = (omega arith, λ i h. c .before .before .before .before .before .pre .1 (faninsStart + i) (omega arith))
 
 slice-aggregate-read-bytes-3 : tie.Need-slice-aggregate-read-bytes-3
 slice-aggregate-read-bytes-3 c = search needs
 
 read-bytes-requires-3 : tie.Need-read-bytes-requires-3
-read-bytes-requires-3 c κs = (omega arith, λ i h. c .before .before .before .before .before .before .before .before .pre .1 (283 + i) (omega arith))
+read-bytes-requires-3 c κs = (omega arith, λ i h. c .before .before .before .before .before .before .before .before .pre .1 (outputsStart + i) (omega arith))
 
 slice-aggregate-read-words : tie.Need-slice-aggregate-read-words
 slice-aggregate-read-words c = search needs

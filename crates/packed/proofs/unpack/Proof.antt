@@ -6,7 +6,8 @@ use lib.Dec.{ltb}
 use lib.ListN.{getD}
 use Rattle.bits.proofs.Ranges.{every-e}
 use borrow.Author.Needs.{needs}
-use Rattle.packed.proofs.Laws.{too-short, no-byte, tested}
+use Rattle.packed.specs.Packed.{byteWords}
+use Rattle.packed.proofs.Reading.{too-short, no-byte, tested}
 use Rattle.packed.proofs.unpack.Statement.{statement}
 use Rattle.packed.proofs.unpack.Tie as tie
 
@@ -31,7 +32,7 @@ session-in-requires : tie.Need-session-in-requires
 session-in-requires c κs =
     let ws = c .before .before .before .before .args .words .now in
     let e = sym (c .before .fit .ensures) ∙ not-false _ (c .if2 .left) in
-    (omega arith, λ i h. ltb-true (getD ws i 0) 256 (every-e 291 (λ j. ltb (getD ws j 0) 256) e i h))
+    (omega arith, λ i h. ltb-true (getD ws i 0) 256 (every-e byteWords (λ j. ltb (getD ws j 0) 256) e i h))
 
 state-test-requires : tie.Need-state-test-requires
 state-test-requires c κs = search needs

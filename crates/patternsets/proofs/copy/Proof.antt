@@ -7,7 +7,7 @@ use native.Mathlib.Omega.{arith}
 use lib.ListN.{length, drop, getD, length-set}
 use lib.Seq.{drop-length}
 use Rattle.bits.specs.Range.{places}
-use Rattle.patternsets.proofs.Laws.{copy-more}
+use Rattle.patternsets.proofs.BufferSteps.{copy-more}
 use Rattle.patternsets.proofs.copy.Statement.{statement}
 use Rattle.patternsets.proofs.copy.Tie as tie
 

@@ -1,7 +1,7 @@
 -- `patternsets::fill_gate` meets its contract: one set's words fill the first half, the other's the second. Assumes nothing.
 use borrow.Author.Needs.{needs}
 use native.Mathlib.Omega.{arith}
-use Rattle.patternsets.proofs.Laws.{halves}
+use Rattle.patternsets.proofs.BufferSteps.{halves}
 use Rattle.patternsets.proofs.fill_gate.Statement.{statement}
 use Rattle.patternsets.proofs.fill_gate.Tie as tie
 

@@ -8,7 +8,7 @@ use native.Mathlib.Nat.{zero-mul}
 use native.Mathlib.Omega.{arith}
 use lib.ListN.{length, drop}
 use Rattle.patternsets.specs.Stretches.{stretches}
-use Rattle.patternsets.proofs.Laws.{more-words, room, laid}
+use Rattle.patternsets.proofs.BufferSteps.{more-words, room, laid}
 use Rattle.patternsets.proofs.fill_gates.Statement.{statement}
 use Rattle.patternsets.proofs.fill_gates.Tie as tie
 

@@ -3,6 +3,7 @@ use borrow.Author.Needs.{needs}
 use Prim.Native.Nat.{_+_, _≤_}
 use native.Mathlib.Nat.{mul-le-mul-right}
 use native.Mathlib.Omega.{arith}
+use Rattle.network.specs.Bounds.{mostGates}
 use Rattle.network.proofs.Valid.{net-ok}
 use Rattle.patternsets.proofs.Words.{needed}
 use Rattle.patternsets.proofs.words_needed.Statement.{statement}
@@ -20,7 +21,7 @@ add-result c = search needs
 mul-result : tie.Need-mul-result
 mul-result c =
     let w = c .before .words-per-set .result in
-    let m : c .place .result ≤ 40 = omega (arith, net-ok (c .before .before .args .s) (c .before .before .pre) .most) in
+    let m : c .place .result ≤ mostGates = omega (arith, net-ok (c .before .before .args .s) (c .before .before .pre) .most) in
     omega (arith, mul-le-mul-right (w + w) m)
 
 returns : tie.Need-returns

@@ -1,7 +1,7 @@
 -- `entries_in`: the ones of the lowest 16 bits. Assumes nothing.
 use mathlib.Core.Path.{_∙_}
 use borrow.Author.Needs.{needs}
-use Rattle.render.proofs.Laws.{low-count, entries-few}
+use Rattle.render.proofs.Pieces.{low-count, entries-few}
 use Rattle.render.proofs.entries_in.Statement.{statement}
 use Rattle.render.proofs.entries_in.Tie as tie
 

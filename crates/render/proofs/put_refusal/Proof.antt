@@ -1,6 +1,6 @@
 -- `put_refusal`: the word and a number. Assumes nothing.
 use borrow.Author.Needs.{needs}
-use Rattle.render.proofs.Laws.{refusal-laid}
+use Rattle.render.proofs.Pieces.{refusal-laid}
 use Rattle.render.proofs.put_refusal.Statement.{statement}
 use Rattle.render.proofs.put_refusal.Tie as tie
 

@@ -2,7 +2,7 @@
 use native.Mathlib.Omega.{arith}
 use borrow.Author.Needs.{needs}
 use Rattle.text.proofs.Digits.{number-within, field-within}
-use Rattle.render.proofs.Laws.{row-laid}
+use Rattle.render.proofs.Pieces.{row-laid}
 use Rattle.render.proofs.put_row.Statement.{statement}
 use Rattle.render.proofs.put_row.Tie as tie
 

@@ -5,7 +5,7 @@ use borrow.Author.Needs.{needs}
 use Rattle.buffer.specs.Laid.{Laid}
 use Rattle.buffer.proofs.Laying.{laid-none}
 use Rattle.render.specs.Text.{rowsAt}
-use Rattle.render.proofs.Laws.{rows-within, rows-next, rows-done}
+use Rattle.render.proofs.Pieces.{rows-within, rows-next, rows-done}
 use Rattle.render.proofs.put_rows.Statement.{statement}
 use Rattle.render.proofs.put_rows.Tie as tie
 

@@ -1,7 +1,7 @@
 -- `put_text`: the header, the rows, the totals. Assumes nothing.
 use native.Mathlib.Omega.{arith}
 use borrow.Author.Needs.{needs}
-use Rattle.render.proofs.Laws.{header-within, rows-within, text-laid}
+use Rattle.render.proofs.Pieces.{header-within, rows-within, text-laid}
 use Rattle.render.proofs.put_text.Statement.{statement}
 use Rattle.render.proofs.put_text.Tie as tie
 

@@ -2,7 +2,7 @@
 use native.Mathlib.Omega.{arith}
 use borrow.Author.Needs.{needs}
 use Rattle.text.proofs.Digits.{number-within}
-use Rattle.render.proofs.Laws.{totals-laid}
+use Rattle.render.proofs.Pieces.{totals-laid}
 use Rattle.render.proofs.put_totals.Statement.{statement}
 use Rattle.render.proofs.put_totals.Tie as tie
 

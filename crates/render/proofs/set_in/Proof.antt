@@ -3,13 +3,14 @@ use mathlib.Core.Path.{_≡_, sym}
 use Prim.Native.Nat.{_*_, _-_, _≤_}
 use native.Mathlib.Omega.{arith}
 use borrow.Author.Needs.{needs}
+use Rattle.network.specs.Bounds.{mostEntries}
 use Rattle.render.specs.Text.{setIn}
-use Rattle.render.proofs.Laws.{set-next}
+use Rattle.render.proofs.Pieces.{set-next}
 use Rattle.render.proofs.set_in.Statement.{statement}
 use Rattle.render.proofs.set_in.Tie as tie
 
 abbrev Inv-loop : tie.InvT-loop
-Inv-loop m tables sum₀ g₀ sum g = (g ≤ m) × (sum ≡ setIn tables g) × (sum ≤ 16 * g)
+Inv-loop m tables sum₀ g₀ sum g = (g ≤ m) × (sum ≡ setIn tables g) × (sum ≤ mostEntries * g)
 
 abbrev μ-loop : tie.MeasureT-loop
 μ-loop m tables sum₀ g₀ sum g = m - g

@@ -3,7 +3,7 @@ use borrow.Author.Needs.{needs}
 use mathlib.Core.Path.{refl}
 use native.Mathlib.Omega.{arith}
 use denote.Ref.{now}
-use Rattle.simulate.proofs.Laws.{later, gate-step}
+use Rattle.simulate.proofs.SimulationSteps.{later, gate-step}
 use Rattle.simulate.proofs.gate_row.Statement.{statement}
 use Rattle.simulate.proofs.gate_row.Tie as tie
 

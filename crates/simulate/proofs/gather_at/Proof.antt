@@ -5,7 +5,9 @@ use Prim.Native.Nat.{ℕ, _+_, _-_, _*_, _≤_, _<_}
 use native.Mathlib.Omega.{arith}
 use lib.ListN.{length, getD, length-set}
 use denote.Ref.{now}
+use Rattle.bits.specs.Bounds.{rowWords, gatePlaces}
 use Rattle.bits.proofs.Ranges.{filled}
+use Rattle.network.specs.Bounds.{mostFanins, mostSignals}
 use Rattle.simulate.specs.Simulated.{wordsAt}
 use Rattle.simulate.proofs.RowLaws.{words-at}
 use Rattle.simulate.proofs.gather_at.Statement.{statement}
@@ -13,15 +15,15 @@ use Rattle.simulate.proofs.gather_at.Tie as tie
 
 abbrev Inv-loop : tie.InvT-loop
 Inv-loop arity fanins rows g w k ins₀ r₀ ins r =
-    (r ≤ k) × (length ins ≡ 6) × ((q : ℕ) → q < r → getD ins q 0 ≡ getD (wordsAt rows w) (getD fanins (6 * g + q) 0) 0)
+    (r ≤ k) × (length ins ≡ gatePlaces) × ((q : ℕ) → q < r → getD ins q 0 ≡ getD (wordsAt rows w) (getD fanins (gatePlaces * g + q) 0) 0)
 
 abbrev μ-loop : tie.MeasureT-loop
 μ-loop arity fanins rows g w k ins₀ r₀ ins r = k - r
 
-few : (c : tie.After-place Inv-loop μ-loop) → c .place .result ≤ 4
+few : (c : tie.After-place Inv-loop μ-loop) → c .place .result ≤ mostFanins
 few c = omega (arith, c .place .ensures, c .before .before .pre .1 .few)
 
-early : (c : tie.After-fanin Inv-loop μ-loop) → c .fanin .result < 50
+early : (c : tie.After-fanin Inv-loop μ-loop) → c .fanin .result < mostSignals
 early c =
     let l = c .before .before in
     omega (arith, c .fanin .ensures, l .before .before .before .pre .1 .early (l .loop .r) (omega (arith, l .before .place .ensures)))
@@ -69,7 +71,7 @@ loop-again c =
     let a = l .before .before .before .args in (
       omega arith,
       simp length-set (l .loop .inv .1),
-      filled (l .loop .ins) (λ q. getD (wordsAt (now (a .rows)) (a .w)) (getD (now (a .fanins)) (6 * a .g + q) 0) 0) (l .loop .r) (getD (now (a .rows)) (16 * f .fanin .result + a .w) 0)
+      filled (l .loop .ins) (λ q. getD (wordsAt (now (a .rows)) (a .w)) (getD (now (a .fanins)) (gatePlaces * a .g + q) 0) 0) (l .loop .r) (getD (now (a .rows)) (rowWords * f .fanin .result + a .w) 0)
           (omega (arith, few (l .before))) (l .loop .inv .2)
           (sym (words-at (now (a .rows)) (a .w) (f .fanin .result) (early f)) ∙ ap (λ (s : ℕ). getD (wordsAt (now (a .rows)) (a .w)) s 0) (f .fanin .ensures)),
     )

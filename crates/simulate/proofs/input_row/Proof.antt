@@ -4,6 +4,7 @@ use mathlib.Core.Path.{_≡_}
 use Prim.Native.Nat.{ℕ, _+_, _-_, _*_, _≤_, _<_}
 use native.Mathlib.Omega.{arith}
 use lib.ListN.{length, getD, length-set}
+use Rattle.bits.specs.Bounds.{rowWords}
 use Rattle.bits.specs.Bit.{bit}
 use Rattle.simulate.proofs.RowLaws.{filled-bits}
 use Rattle.simulate.proofs.input_row.Statement.{statement}
@@ -11,7 +12,7 @@ use Rattle.simulate.proofs.input_row.Tie as tie
 
 abbrev Inv-loop : tie.InvT-loop
 Inv-loop i count out₀ w₀ out w =
-    (w ≤ count) × (length out ≡ 16) × ((q b : ℕ) → q < w → b < 64 → bit (getD out q 0) b ≡ bit (q * 64 + b) i)
+    (w ≤ count) × (length out ≡ rowWords) × ((q b : ℕ) → q < w → b < 64 → bit (getD out q 0) b ≡ bit (q * 64 + b) i)
 
 abbrev μ-loop : tie.MeasureT-loop
 μ-loop i count out₀ w₀ out w = count - w

@@ -4,15 +4,17 @@ use mathlib.Core.Path.{_≡_, refl, subst}
 use Prim.Native.Nat.{ℕ, _-_, _≤_, _<_}
 use native.Mathlib.Omega.{arith}
 use lib.ListN.{length}
+use Rattle.bits.specs.Bounds.{rowWords}
+use Rattle.network.specs.Bounds.{signalWords}
 use Rattle.simulate.specs.Simulated.{Inputs, wordsAt}
-use Rattle.simulate.proofs.Laws.{input-step}
+use Rattle.simulate.proofs.SimulationSteps.{input-step}
 use Rattle.simulate.proofs.RowLaws.{words-long}
 use Rattle.simulate.proofs.input_rows.Statement.{statement}
 use Rattle.simulate.proofs.input_rows.Tie as tie
 
 abbrev Inv-loop : tie.InvT-loop
 Inv-loop n count rows₀ row₀ i₀ rows row i =
-    (i ≤ n) × (length row ≡ 16) × (length rows ≡ 800) × ((w : ℕ) → w < count → Inputs (wordsAt rows w) i w)
+    (i ≤ n) × (length row ≡ rowWords) × (length rows ≡ signalWords) × ((w : ℕ) → w < count → Inputs (wordsAt rows w) i w)
 
 abbrev μ-loop : tie.MeasureT-loop
 μ-loop n count rows₀ row₀ i₀ rows row i = n - i

@@ -7,6 +7,7 @@ use native.Mathlib.Omega.{arith}
 use lib.ListN.{getD}
 use denote.Ref.{now}
 use Rattle.bits.specs.Bit.{bit}
+use Rattle.network.specs.Bounds.{mostSignals}
 use Rattle.simulate.proofs.RowLaws.{entry-row}
 use Rattle.simulate.proofs.lut_row.Statement.{statement}
 use Rattle.simulate.proofs.lut_row.Tie as tie
@@ -43,7 +44,7 @@ row2-requires c κs =
     let pl = c .before .before .before .before .before in
     let s = pl .before .before in
     let e : getD (now (s .args .arity)) (s .args .g) 0 ≡ 2 = omega (arith, pl .place .ensures) in
-    let early : (c .before .before .before .before .fanin .result < 50) × (c .before .before .fanin2 .result < 50) =
+    let early : (c .before .before .before .before .fanin .result < mostSignals) × (c .before .before .fanin2 .result < mostSignals) =
     (omega (arith, c .before .before .before .before .fanin .ensures, s .pre .1 .early 0 (omega arith)), omega (arith, c .before .before .fanin2 .ensures, s .pre .1 .early 1 (omega arith))) in
     ((omega arith, s .pre .0 .2), (omega arith, omega arith))
 
@@ -63,7 +64,7 @@ row3-requires c κs =
     let pl = c .before .before .before .before .before .before .before in
     let s = pl .before .before in
     let e : getD (now (s .args .arity)) (s .args .g) 0 ≡ 3 = omega (arith, pl .place .ensures) in
-    let early : (c .before .before .before .before .before .before .fanin .result < 50) × (c .before .before .before .before .fanin2 .result < 50) × (c .before .before .fanin3 .result < 50) =
+    let early : (c .before .before .before .before .before .before .fanin .result < mostSignals) × (c .before .before .before .before .fanin2 .result < mostSignals) × (c .before .before .fanin3 .result < mostSignals) =
     (omega (arith, c .before .before .before .before .before .before .fanin .ensures, s .pre .1 .early 0 (omega arith)), omega (arith, c .before .before .before .before .fanin2 .ensures, s .pre .1 .early 1 (omega arith)), omega (arith, c .before .before .fanin3 .ensures, s .pre .1 .early 2 (omega arith))) in
     ((omega arith, s .pre .0 .2), (omega arith, omega arith, omega arith))
 
@@ -83,7 +84,7 @@ row4-requires c κs =
     let pl = c .before .before .before .before .before .before .before .before in
     let s = pl .before .before in
     let e : getD (now (s .args .arity)) (s .args .g) 0 ≡ 4 = omega (arith, pl .place .ensures, s .pre .1 .some, s .pre .1 .few) in
-    let early : (c .before .before .before .before .before .before .before .fanin .result < 50) × (c .before .before .before .before .before .fanin2 .result < 50) × (c .before .before .before .fanin3 .result < 50) × (c .before .fanin4 .result < 50) =
+    let early : (c .before .before .before .before .before .before .before .fanin .result < mostSignals) × (c .before .before .before .before .before .fanin2 .result < mostSignals) × (c .before .before .before .fanin3 .result < mostSignals) × (c .before .fanin4 .result < mostSignals) =
     (omega (arith, c .before .before .before .before .before .before .before .fanin .ensures, s .pre .1 .early 0 (omega arith)), omega (arith, c .before .before .before .before .before .fanin2 .ensures, s .pre .1 .early 1 (omega arith)), omega (arith, c .before .before .before .fanin3 .ensures, s .pre .1 .early 2 (omega arith)), omega (arith, c .before .fanin4 .ensures, s .pre .1 .early 3 (omega arith))) in
     ((omega arith, s .pre .0 .2), (omega arith, omega arith, omega arith, omega arith))
 

@@ -6,6 +6,7 @@ use Prim.Native.Nat.{ℕ, _-_, _≤_, _<_}
 use native.Mathlib.Omega.{arith}
 use lib.ListN.{length, getD, length-set}
 use denote.Ref.{now}
+use Rattle.bits.specs.Bounds.{rowWords}
 use Rattle.bits.specs.Bit.{bit, number}
 use Rattle.simulate.specs.Simulated.{valueAt}
 use Rattle.simulate.proofs.RowLaws.{filled-bits}
@@ -14,7 +15,7 @@ use Rattle.simulate.proofs.row1.Tie as tie
 
 abbrev Inv-loop : tie.InvT-loop
 Inv-loop t rows count a out₀ w₀ out w =
-    (w ≤ count) × (length out ≡ 16) × ((q i : ℕ) → q < w → i < 64 → bit (getD out q 0) i ≡ bit t (number (valueAt rows a q i ∷ [])))
+    (w ≤ count) × (length out ≡ rowWords) × ((q i : ℕ) → q < w → i < 64 → bit (getD out q 0) i ≡ bit t (number (valueAt rows a q i ∷ [])))
 
 abbrev μ-loop : tie.MeasureT-loop
 μ-loop t rows count a out₀ w₀ out w = count - w

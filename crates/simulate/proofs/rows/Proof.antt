@@ -5,14 +5,15 @@ use Prim.Native.Nat.{ℕ, _-_, _≤_}
 use native.Mathlib.Omega.{arith}
 use lib.ListN.{length}
 use denote.Ref.{now}
+use Rattle.network.specs.Bounds.{signalWords}
 use Rattle.simulate.specs.Simulated.{Rows}
-use Rattle.simulate.proofs.Laws.{no-gate}
+use Rattle.simulate.proofs.SimulationSteps.{no-gate}
 use Rattle.simulate.proofs.RowLaws.{words-long}
 use Rattle.simulate.proofs.rows.Statement.{statement}
 use Rattle.simulate.proofs.rows.Tie as tie
 
 abbrev Inv-loop : tie.InvT-loop
-Inv-loop n m arity fanins tables count rows₀ g₀ rows g = (g ≤ m) × (length rows ≡ 800) × Rows arity fanins tables rows n g count
+Inv-loop n m arity fanins tables count rows₀ g₀ rows g = (g ≤ m) × (length rows ≡ signalWords) × Rows arity fanins tables rows n g count
 
 abbrev μ-loop : tie.MeasureT-loop
 μ-loop n m arity fanins tables count rows₀ g₀ rows g = m - g

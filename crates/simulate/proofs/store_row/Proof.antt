@@ -5,16 +5,17 @@ use Prim.Native.Nat.{_-_, _≤_}
 use native.Mathlib.Omega.{arith}
 use lib.ListN.{getD}
 use denote.Ref.{now}
+use Rattle.bits.specs.Bounds.{rowWords}
 use Rattle.simulate.proofs.RowLaws.{Stored, store-first, store-step}
 use Rattle.simulate.proofs.store_row.Statement.{statement}
 use Rattle.simulate.proofs.store_row.Tie as tie
 
 abbrev Inv-loop : tie.InvT-loop
 Inv-loop rows₀ s row w₀ rows w =
-    (w ≤ 16) × Stored rows₀ rows (λ w. getD row w 0) s w
+    (w ≤ rowWords) × Stored rows₀ rows (λ w. getD row w 0) s w
 
 abbrev μ-loop : tie.MeasureT-loop
-μ-loop rows₀ s row w₀ rows w = 16 - w
+μ-loop rows₀ s row w₀ rows w = rowWords - w
 
 loop-holds : tie.Need-loop-holds Inv-loop μ-loop
 loop-holds c = let a = c .args in (omega arith, store-first (now (a .rows)) (λ w. getD (now (a .row)) w 0) (a .s) (c .pre .1))

@@ -1,6 +1,6 @@
 use mathlib.Core.Path.{sym}
 use Rattle.network.proofs.TestLaws.{count-i}
-use Rattle.state.proofs.Laws.{count-low, count-high}
+use Rattle.state.proofs.TestSteps.{count-low, count-high}
 use Rattle.state.proofs.count_test.Statement.{statement}
 use Rattle.state.proofs.count_test.Tie as tie
 

@@ -1,6 +1,6 @@
 use mathlib.Core.Path.{_∙_}
 use borrow.Author.Needs.{needs}
-use Rattle.state.proofs.Laws.{or-refused, or-passed, or-last}
+use Rattle.state.proofs.TestSteps.{or-refused, or-passed, or-last}
 use Rattle.state.proofs.counts_test.Statement.{statement}
 use Rattle.state.proofs.counts_test.Tie as tie
 

@@ -6,8 +6,9 @@ use lib.ListN.{getD}
 use borrow.Author.Needs.{needs}
 use Rattle.bits.specs.Range.{upFrom}
 use Rattle.network.specs.declared.Answer.{Answer}
+use Rattle.network.specs.Bounds.{excludedWords}
 use Rattle.network.specs.Tests.{first, widthTest, excludedTest}
-use Rattle.state.proofs.Laws.{row-refused, row-passed, row-ended}
+use Rattle.state.proofs.TestSteps.{row-refused, row-passed, row-ended}
 use Rattle.state.proofs.excluded_test.Statement.{statement}
 use Rattle.state.proofs.excluded_test.Tie as tie
 
@@ -15,10 +16,10 @@ abbrev test : ℕ → List ℕ → ℕ → Answer
 test n ws w = widthTest (2 ^ n - 64 * w) (getD ws w 0)
 
 abbrev Inv-loop : tie.InvT-loop
-Inv-loop n ws w₀ w = (w ≤ 16) × (first (map (test n ws) (upFrom w (16 - w))) ≡ excludedTest n ws)
+Inv-loop n ws w₀ w = (w ≤ excludedWords) × (first (map (test n ws) (upFrom w (excludedWords - w))) ≡ excludedTest n ws)
 
 abbrev μ-loop : tie.MeasureT-loop
-μ-loop n ws w₀ w = 16 - w
+μ-loop n ws w₀ w = excludedWords - w
 
 loop-holds : tie.Need-loop-holds Inv-loop μ-loop
 unfolding excludedTest
@@ -40,7 +41,7 @@ returns : tie.Need-returns Inv-loop μ-loop
 returns c =
     let a = c .before .before .before .before .before .args in
     let h = c .before .before .before .before .loop in
-    row-refused (test (a .n) (a .t2)) (h .w) 16 (omega arith) (c .before .before .word-test .ensures) (c .enum-told .given .1) ∙ h .inv .1
+    row-refused (test (a .n) (a .t2)) (h .w) excludedWords (omega arith) (c .before .before .word-test .ensures) (c .enum-told .given .1) ∙ h .inv .1
 
 enum-told-2 : tie.Need-enum-told-2 Inv-loop μ-loop
 enum-told-2 c = search needs
@@ -55,13 +56,13 @@ loop-again : tie.Need-loop-again Inv-loop μ-loop
 loop-again c =
     let a = c .before .before .before .before .before .args in
     let h = c .before .before .before .before .loop in
-    (omega arith, row-passed (test (a .n) (a .t2)) (h .w) 16 (omega arith) (c .before .before .word-test .ensures) (c .enum-told2 .given .1) ∙ h .inv .1)
+    (omega arith, row-passed (test (a .n) (a .t2)) (h .w) excludedWords (omega arith) (c .before .before .word-test .ensures) (c .enum-told2 .given .1) ∙ h .inv .1)
 
 returns-2 : tie.Need-returns-2 Inv-loop μ-loop
 returns-2 c =
     let a = c .before .before .args in
     let h = c .before .loop in
-    row-ended (test (a .n) (a .t2)) (h .w) 16 (omega arith) ∙ h .inv .1
+    row-ended (test (a .n) (a .t2)) (h .w) excludedWords (omega arith) ∙ h .inv .1
 
 pub excluded-test-spec : {M : Type 1} → statement M
 excluded-test-spec =

@@ -1,6 +1,6 @@
 use mathlib.Core.Path.{sym, _∙_}
 use borrow.Author.Needs.{needs}
-use Rattle.state.proofs.Laws.{fanin-late, fanin-twice, fanin-fine}
+use Rattle.state.proofs.TestSteps.{fanin-late, fanin-twice, fanin-fine}
 use Rattle.state.proofs.fanin_test.Statement.{statement}
 use Rattle.state.proofs.fanin_test.Tie as tie
 

@@ -7,7 +7,7 @@ use lib.ListN.{length}
 use borrow.Author.Needs.{needs}
 use Rattle.bits.specs.Range.{upFrom}
 use Rattle.network.specs.Tests.{first, faninTest, faninsTest}
-use Rattle.state.proofs.Laws.{row-refused, row-passed, row-ended}
+use Rattle.state.proofs.TestSteps.{row-refused, row-passed, row-ended}
 use Rattle.state.proofs.fanins_test.Statement.{statement}
 use Rattle.state.proofs.fanins_test.Tie as tie
 

@@ -1,7 +1,8 @@
 use mathlib.Core.Path.{_∙_}
 use native.Mathlib.Omega.{arith}
 use borrow.Author.Needs.{needs}
-use Rattle.state.proofs.Laws.{or-refused, or-passed, or-last, few, fanins-open}
+use Rattle.network.specs.Bounds.{mostFanins}
+use Rattle.state.proofs.TestSteps.{or-refused, or-passed, or-last, few, fanins-open}
 use Rattle.state.proofs.gate_test.Statement.{statement}
 use Rattle.state.proofs.gate_test.Tie as tie
 
@@ -26,7 +27,7 @@ part-fanins-test-start c = search needs
 part-fanins-test-end : tie.Need-part-fanins-test-end
 part-fanins-test-end c =
     let a = c .before .before .before .before .args in
-    omega (arith, few 4 (a .k) (c .before .before .count-test .ensures) (c .enum-told2 .given .1))
+    omega (arith, few mostFanins (a .k) (c .before .before .count-test .ensures) (c .enum-told2 .given .1))
 
 fanins-test-requires : tie.Need-fanins-test-requires
 fanins-test-requires c κs = search needs
@@ -48,7 +49,7 @@ table-test-requires : tie.Need-table-test-requires
 table-test-requires c κs =
     let k = c .before .before .before .before in
     let a = k .before .before .before .before .args in
-    omega (arith, few 4 (a .k) (k .before .before .count-test .ensures) (k .enum-told2 .given .1))
+    omega (arith, few mostFanins (a .k) (k .before .before .count-test .ensures) (k .enum-told2 .given .1))
 
 enum-told-5 : tie.Need-enum-told-5
 enum-told-5 c = search needs
@@ -69,7 +70,7 @@ table-test-requires-2 : tie.Need-table-test-requires-2
 table-test-requires-2 c κs =
     let k = c .before .before .before .before .before .before .before in
     let a = k .before .before .before .before .args in
-    omega (arith, few 4 (a .k) (k .before .before .count-test .ensures) (k .enum-told2 .given .1))
+    omega (arith, few mostFanins (a .k) (k .before .before .count-test .ensures) (k .enum-told2 .given .1))
 
 returns-4 : tie.Need-returns-4
 returns-4 c =

@@ -6,9 +6,10 @@ use native.Mathlib.Omega.{arith}
 use lib.ListN.{length}
 use borrow.Author.Needs.{needs}
 use Rattle.bits.specs.Range.{upFrom}
+use Rattle.network.specs.Bounds.{faninPlaces}
 use Rattle.network.specs.Tests.{first}
 use Rattle.network.specs.State.{gateFault}
-use Rattle.state.proofs.Laws.{row-refused, row-passed, row-ended, gate-room, gate-parts}
+use Rattle.state.proofs.TestSteps.{row-refused, row-passed, row-ended, gate-room, gate-parts}
 use Rattle.state.proofs.gates_test.Statement.{statement}
 use Rattle.state.proofs.gates_test.Tie as tie
 
@@ -42,7 +43,7 @@ part-gate-test-start c = search needs
 part-gate-test-end : tie.Need-part-gate-test-end Inv-loop μ-loop
 part-gate-test-end c =
     let s = c .before .before .before .before .before .args .t1 in
-    let l : length (s .fanins) ≡ 240 = search needs in
+    let l : length (s .fanins) ≡ faninPlaces = search needs in
     omega arith
 
 mul-gate-test : tie.Need-mul-gate-test Inv-loop μ-loop
@@ -60,7 +61,7 @@ element-copy-out-gate-test-3 c = search needs
 gate-test-requires : tie.Need-gate-test-requires Inv-loop μ-loop
 gate-test-requires c κs =
     let s = c .before .before .before .before .before .before .before .before .args .t1 in
-    let l : length (s .fanins) ≡ 240 = search needs in
+    let l : length (s .fanins) ≡ faninPlaces = search needs in
     gate-room s (c .before .before .before .before .before .before .loop .g) l (omega arith)
 
 enum-told : tie.Need-enum-told Inv-loop μ-loop
@@ -70,7 +71,7 @@ returns : tie.Need-returns Inv-loop μ-loop
 returns c =
     let h = c .before .before .before .before .before .before .before .before .before in
     let s = h .before .before .args .t1 in
-    let l : length (s .fanins) ≡ 240 = search needs in
+    let l : length (s .fanins) ≡ faninPlaces = search needs in
     row-refused (gateFault s) (h .loop .g) (s .m) (omega arith) (gate-parts s (h .loop .g) l (c .before .before .gate-test .ensures)) (c .enum-told .given .1) ∙ h .loop .inv .1
 
 enum-told-2 : tie.Need-enum-told-2 Inv-loop μ-loop
@@ -86,7 +87,7 @@ loop-again : tie.Need-loop-again Inv-loop μ-loop
 loop-again c =
     let h = c .before .before .before .before .before .before .before .before .before in
     let s = h .before .before .args .t1 in
-    let l : length (s .fanins) ≡ 240 = search needs in
+    let l : length (s .fanins) ≡ faninPlaces = search needs in
     (omega arith, row-passed (gateFault s) (h .loop .g) (s .m) (omega arith) (gate-parts s (h .loop .g) l (c .before .before .gate-test .ensures)) (c .enum-told2 .given .1) ∙ h .loop .inv .1)
 
 returns-2 : tie.Need-returns-2 Inv-loop μ-loop

@@ -4,7 +4,7 @@ use native.Mathlib.Omega.{arith}
 use lib.ListN.{length, drop}
 use borrow.Author.Needs.{needs}
 use Rattle.network.specs.Tests.{member}
-use Rattle.state.proofs.Laws.{member-found, member-next, member-done}
+use Rattle.state.proofs.TestSteps.{member-found, member-next, member-done}
 use Rattle.state.proofs.member.Statement.{statement}
 use Rattle.state.proofs.member.Tie as tie
 

@@ -1,6 +1,6 @@
 use mathlib.Core.Path.{sym}
 use Rattle.network.proofs.TestLaws.{output-i}
-use Rattle.state.proofs.Laws.{past}
+use Rattle.state.proofs.TestSteps.{past}
 use Rattle.state.proofs.output_test.Statement.{statement}
 use Rattle.state.proofs.output_test.Tie as tie
 

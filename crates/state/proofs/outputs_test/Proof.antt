@@ -8,7 +8,7 @@ use borrow.Author.Needs.{needs}
 use Rattle.bits.specs.Range.{upFrom}
 use Rattle.network.specs.declared.Answer.{Answer}
 use Rattle.network.specs.Tests.{first, outputTest}
-use Rattle.state.proofs.Laws.{row-refused, row-passed, row-ended}
+use Rattle.state.proofs.TestSteps.{row-refused, row-passed, row-ended}
 use Rattle.state.proofs.outputs_test.Statement.{statement}
 use Rattle.state.proofs.outputs_test.Tie as tie
 

@@ -1,7 +1,7 @@
 use mathlib.Core.Path.{_∙_}
 use native.Mathlib.Omega.{arith}
 use borrow.Author.Needs.{needs}
-use Rattle.state.proofs.Laws.{or-refused, or-passed, or-last, in-turn, few-counts}
+use Rattle.state.proofs.TestSteps.{or-refused, or-passed, or-last, in-turn, few-counts}
 use Rattle.state.proofs.state_fault.Statement.{statement}
 use Rattle.state.proofs.state_fault.Tie as tie
 

@@ -1,5 +1,5 @@
 use borrow.Author.Needs.{needs}
-use Rattle.state.proofs.Laws.{invalid, valid}
+use Rattle.state.proofs.TestSteps.{invalid, valid}
 use Rattle.state.proofs.state_test.Statement.{statement}
 use Rattle.state.proofs.state_test.Tie as tie
 

@@ -2,7 +2,7 @@ use mathlib.Core.Path.{sym}
 use native.Mathlib.Omega.{arith}
 use borrow.Author.Needs.{needs}
 use Rattle.network.proofs.TestLaws.{width-i}
-use Rattle.state.proofs.Laws.{past, wide}
+use Rattle.state.proofs.TestSteps.{past, wide}
 use Rattle.state.proofs.width_test.Statement.{statement}
 use Rattle.state.proofs.width_test.Tie as tie
 

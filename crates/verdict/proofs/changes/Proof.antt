@@ -8,7 +8,7 @@ use Rattle.bits.specs.Bit.{bit}
 use Rattle.bits.proofs.BitLaws.{bit-zero}
 use Rattle.simulate.specs.Simulated.{wordsAt}
 use Rattle.verdict.specs.Changed.{changedWord}
-use Rattle.verdict.proofs.Laws.{changes-step}
+use Rattle.verdict.proofs.HarmWords.{changes-step}
 use Rattle.verdict.proofs.changes.Statement.{statement}
 use Rattle.verdict.proofs.changes.Tie as tie
 

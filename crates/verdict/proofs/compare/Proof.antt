@@ -1,6 +1,6 @@
 -- Where no output changes at a kept place there is no harm. Assumes nothing.
 use borrow.Author.Needs.{needs}
-use Rattle.verdict.proofs.Laws.{no-keep, no-change}
+use Rattle.verdict.proofs.HarmWords.{no-keep, no-change}
 use Rattle.verdict.proofs.compare.Statement.{statement}
 use Rattle.verdict.proofs.compare.Tie as tie
 

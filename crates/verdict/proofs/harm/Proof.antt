@@ -3,8 +3,9 @@ use mathlib.Core.Path.{_≡_, _∙_}
 use native.Mathlib.Omega.{arith}
 use lib.ListN.{length}
 use borrow.Author.Needs.{needs}
+use Rattle.network.specs.Bounds.{mostGates}
 use Rattle.network.proofs.Valid.{net-ok}
-use Rattle.verdict.proofs.Laws.{session-ok, harm-session}
+use Rattle.verdict.proofs.HarmWords.{session-ok, harm-session}
 use Rattle.verdict.proofs.harm.Statement.{statement}
 use Rattle.verdict.proofs.harm.Tie as tie
 
@@ -33,7 +34,7 @@ network-harm-requires c κs =
 
 returns : tie.Need-returns
 returns c =
-    let h : length (c .before .before .before .before .before .before .before .before .before .before .before .before .before .before .before .before .args .s .current) ≡ 40 = search needs in
+    let h : length (c .before .before .before .before .before .before .before .before .before .before .before .before .before .before .before .before .args .s .current) ≡ mostGates = search needs in
     let outs = c .before .before .before .before .before .before .before .before .before .before .before .before .before in
     let gates = outs .before in
     let ins = gates .before in

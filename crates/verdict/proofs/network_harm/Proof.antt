@@ -7,7 +7,7 @@ use Rattle.network.specs.Flat.{netOf}
 use Rattle.network.specs.Calls.{harmTest}
 use Rattle.verdict.specs.Changed.{wordHarm}
 use Rattle.verdict.proofs.Turns.{left, words-found, words-next, words-done}
-use Rattle.verdict.proofs.Laws.{outputs-fit, tests, word-harms, harm-start}
+use Rattle.verdict.proofs.HarmWords.{outputs-fit, tests, word-harms, harm-start}
 use Rattle.verdict.proofs.network_harm.Statement.{statement}
 use Rattle.verdict.proofs.network_harm.Tie as tie
 
@@ -38,14 +38,14 @@ loop-holds c =
     let a = frame .before .args in
     (omega arith, harm-start (a .arity .now) (a .fanins .now) (a .loaded .now) (a .tables .now) (a .n) (a .m) (a .excluded .now) (a .outs .now) (a .p) (frame .frame-of .ensures))
 
-mul-invert : tie.Need-mul-invert Inv-loop μ-loop
-mul-invert c = omega (arith, c .before .before .before .before .before .before .frame-of .ensures .cut .words)
+mul-complement : tie.Need-mul-complement Inv-loop μ-loop
+mul-complement c = omega (arith, c .before .before .before .before .before .before .frame-of .ensures .cut .words)
 
-element-copy-out-invert : tie.Need-element-copy-out-invert Inv-loop μ-loop
-element-copy-out-invert c = omega (arith, c .before .before .before .before .before .before .frame-of .ensures .cut .words)
+element-copy-out-complement : tie.Need-element-copy-out-complement Inv-loop μ-loop
+element-copy-out-complement c = omega (arith, c .before .before .before .before .before .before .frame-of .ensures .cut .words)
 
-invert-requires : tie.Need-invert-requires Inv-loop μ-loop
-invert-requires c κs = search needs
+complement-requires : tie.Need-complement-requires Inv-loop μ-loop
+complement-requires c κs = search needs
 
 compare-requires : tie.Need-compare-requires Inv-loop μ-loop
 compare-requires c κs =
@@ -68,7 +68,7 @@ answer c =
     let a = s .args in
     c .compare .ensures
     ∙ word-harms (a .arity .now) (a .fanins .now) (a .loaded .now) (a .tables .now) (a .n) (a .m) (a .excluded .now) (a .outs .now) (a .p) _ _ _ _
-    (frame .frame-of .ensures) (inv .invert .ensures) (test .loop-test .taken) (xs .rows .ensures .1 _ (test .loop-test .taken)) (ys .update .ensures .1 _ (test .loop-test .taken)) (s .pre .1)
+    (frame .frame-of .ensures) (inv .complement .ensures) (test .loop-test .taken) (xs .rows .ensures .1 _ (test .loop-test .taken)) (ys .update .ensures .1 _ (test .loop-test .taken)) (s .pre .1)
 
 enum-told : tie.Need-enum-told Inv-loop μ-loop
 enum-told c = search needs
@@ -105,9 +105,9 @@ network-harm-spec =
     rows-requires
     update-requires
     loop-holds
-    mul-invert
-    element-copy-out-invert
-    invert-requires
+    mul-complement
+    element-copy-out-complement
+    complement-requires
     compare-requires
     enum-told
     returns

@@ -6,23 +6,25 @@ use native.Mathlib.Omega.{arith}
 use lib.Bits.{bitAnd, bitOr, or-zero-r}
 use lib.ListN.{length, getD, set, replicate, getD-replicate}
 use denote.Ref.{now}
+use Rattle.bits.specs.Bounds.{rowWords}
 use Rattle.bits.specs.Bit.{bit}
+use Rattle.network.specs.Bounds.{mostSignals, signalWords}
 use Rattle.simulate.specs.Simulated.{wordsAt}
 use Rattle.simulate.proofs.RowLaws.{words-long}
 use Rattle.compatible.specs.Words.{outputsLeave}
-use Rattle.compatible.proofs.Laws.{start-first, start-step}
+use Rattle.compatible.proofs.BackwardSteps.{start-first, start-step}
 use Rattle.compatible.proofs.sets.at_outputs.Statement.{statement}
 use Rattle.compatible.proofs.sets.at_outputs.Tie as tie
 
 abbrev Inv-loop : tie.InvT-loop
 Inv-loop p outs excluded count hs₀ none i₀ hs i =
-    (i ≤ p) × (length hs ≡ 800)
-    × ((w b s : ℕ) → w < count → b < 64 → s < 50 → bit (getD (wordsAt hs w) s 0) b ≡ outputsLeave outs i (bit (getD excluded w 0) b) s)
+    (i ≤ p) × (length hs ≡ signalWords)
+    × ((w b s : ℕ) → w < count → b < 64 → s < mostSignals → bit (getD (wordsAt hs w) s 0) b ≡ outputsLeave outs i (bit (getD excluded w 0) b) s)
 
 abbrev μ-loop : tie.MeasureT-loop
 μ-loop p outs excluded count hs₀ none i₀ hs i = p - i
 
-fits : (c : tie.After-place Inv-loop μ-loop) → c .place .result < 50
+fits : (c : tie.After-place Inv-loop μ-loop) → c .place .result < mostSignals
 fits c =
     let l = c .before .before .before in
     omega (arith, c .place .ensures, l .before .before .pre .0 .each (l .loop .i) (omega arith))
@@ -53,8 +55,8 @@ loop-again c =
     let l = pl .before .before .before .loop in
     let a = pl .before .before .before .before .before .args in
     let f = pl .place .result in
-    let alone : (w : ℕ) → w < 16 → bitOr (getD (now (a .excluded)) w 0) (getD (replicate 16 0) w 0) ≡ getD (now (a .excluded)) w 0
-    = λ w h. ap (bitOr (getD (now (a .excluded)) w 0)) (getD-replicate {A = ℕ} 16 w 0 0 h) ∙ or-zero-r (getD (now (a .excluded)) w 0) in (
+    let alone : (w : ℕ) → w < rowWords → bitOr (getD (now (a .excluded)) w 0) (getD (replicate rowWords 0) w 0) ≡ getD (now (a .excluded)) w 0
+    = λ w h. ap (bitOr (getD (now (a .excluded)) w 0)) (getD-replicate {A = ℕ} rowWords w 0 0 h) ∙ or-zero-r (getD (now (a .excluded)) w 0) in (
       omega arith,
       c .intersect .ensures .0,
       λ w b x hw hb hx. rw (c .intersect .ensures .1 w hw ∙ ap (λ (v : ℕ). set (wordsAt (l .hs) w) f (bitAnd (getD (wordsAt (l .hs) w) f 0) v)) (alone w (omega arith))) (start-step (wordsAt (l .hs) w) (now (a .outs)) (l .i) f (bitAnd (getD (wordsAt (l .hs) w) f 0) (getD (now (a .excluded)) w 0)) (getD (now (a .excluded)) w 0) b x

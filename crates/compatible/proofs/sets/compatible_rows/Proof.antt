@@ -7,7 +7,9 @@ use native.Mathlib.Omega.{arith}
 use lib.Dec.{leb}
 use lib.ListN.{length, getD, set, getD-replicate}
 use denote.Ref.{now}
+use Rattle.bits.specs.Bounds.{rowWords}
 use Rattle.bits.specs.Bit.{bit, column}
+use Rattle.network.specs.Bounds.{mostSignals, signalWords}
 use Rattle.network.specs.Compatible.{compatibleFrom}
 use Rattle.network.specs.Flat.{gatesOf}
 use Rattle.simulate.specs.Simulated.{wordsAt}
@@ -19,8 +21,8 @@ use Rattle.compatible.proofs.sets.compatible_rows.Tie as tie
 
 abbrev Inv-loop : tie.InvT-loop
 Inv-loop n m arity fanins tables excluded p outs count rows hs₀ empty i₀ hs i =
-    (i ≤ n) × (length hs ≡ 800)
-    × ((w : ℕ) → w < count → (b : ℕ) → b < 64 → (s : ℕ) → s < 50
+    (i ≤ n) × (length hs ≡ signalWords)
+    × ((w : ℕ) → w < count → (b : ℕ) → b < 64 → (s : ℕ) → s < mostSignals
     → bit (getD (wordsAt hs w) s 0) b ≡ (leb i s && compatibleFrom (outputsLeave outs p (bit (getD excluded w 0) b)) (column (wordsAt rows w) b) n (gatesOf arity fanins tables m) s))
 
 abbrev μ-loop : tie.MeasureT-loop
@@ -58,7 +60,7 @@ loop-again c =
       omega arith,
       c .store-row .ensures .0,
       λ w hw b hb x hx.
-          rw (c .store-row .ensures .1 w (omega arith) ∙ ap (set (wordsAt (l .hs) w) (l .i)) (getD-replicate {A = ℕ} 16 w 0 0 (omega arith)))
+          rw (c .store-row .ensures .1 w (omega arith) ∙ ap (set (wordsAt (l .hs) w) (l .i)) (getD-replicate {A = ℕ} rowWords w 0 0 (omega arith)))
           (zero-step (wordsAt (l .hs) w) (l .i) b x _ (omega (arith, s .pre .0 .ins, words-long (l .hs) w)) (l .inv .2 w hw b hb x hx)),
     )
 

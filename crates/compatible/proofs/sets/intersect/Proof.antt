@@ -7,6 +7,7 @@ use native.Mathlib.Omega.{arith}
 use lib.Bits.{bitAnd, bitOr}
 use lib.ListN.{getD}
 use denote.Ref.{now}
+use Rattle.bits.specs.Bounds.{rowWords}
 use Rattle.simulate.specs.Simulated.{wordsAt}
 use Rattle.simulate.proofs.RowLaws.{words-at, Stored, store-first, store-step}
 use Rattle.compatible.proofs.sets.intersect.Statement.{statement}
@@ -69,7 +70,7 @@ loop-again c =
     let a = c .before .before .before .before .before .args in
     let x = bitOr (getD (now (a .x)) (l .w) 0) (getD (now (a .y)) (l .w) 0) in (
       omega arith,
-      store-step (now (a .hs)) (l .hs) (λ v. bitAnd (getD (wordsAt (now (a .hs)) v) (a .s) 0) (bitOr (getD (now (a .x)) v 0) (getD (now (a .y)) v 0))) (a .s) (l .w) (bitAnd (getD (l .hs) (16 * a .s + l .w) 0) x) (omega arith) (omega arith) (l .inv .1)
+      store-step (now (a .hs)) (l .hs) (λ v. bitAnd (getD (wordsAt (now (a .hs)) v) (a .s) 0) (bitOr (getD (now (a .x)) v 0) (getD (now (a .y)) v 0))) (a .s) (l .w) (bitAnd (getD (l .hs) (rowWords * a .s + l .w) 0) x) (omega arith) (omega arith) (l .inv .1)
           (ap (λ (y : ℕ). bitAnd y x) (sym (words-at (l .hs) (l .w) (a .s) (omega arith)) ∙ ap (λ (z : List ℕ). getD z (a .s) 0) (l .inv .1 .2 (l .w) (omega arith) (omega arith)))),
     )
 

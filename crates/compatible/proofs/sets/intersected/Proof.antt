@@ -7,28 +7,29 @@ use native.Mathlib.Omega.{arith}
 use lib.ListN.{length, getD}
 use denote.Ref.{now}
 use Rattle.bits.specs.Bit.{bit, column}
+use Rattle.network.specs.Bounds.{mostSignals, signalWords}
 use Rattle.network.specs.Compatible.{compatibleFrom}
 use Rattle.network.specs.Flat.{gatesOf}
 use Rattle.network.specs.Valid.{GateOk}
 use Rattle.simulate.specs.Simulated.{wordsAt}
-use Rattle.simulate.proofs.Laws.{later}
+use Rattle.simulate.proofs.SimulationSteps.{later}
 use Rattle.compatible.specs.Words.{outputsLeave}
-use Rattle.compatible.proofs.Laws.{left, last, gate-step}
+use Rattle.compatible.proofs.BackwardSteps.{left, last, gate-step}
 use Rattle.compatible.proofs.sets.intersected.Statement.{statement}
 use Rattle.compatible.proofs.sets.intersected.Tie as tie
 
 abbrev Inv-loop : tie.InvT-loop
 Inv-loop n m arity fanins tables excluded p outs rows count hs₀ edges g₀ hs g =
-    (g ≤ m) × (length hs ≡ 800)
-    × ((w b s : ℕ) → w < count → b < 64 → s < 50 → bit (getD (wordsAt hs w) s 0) b ≡ left arity fanins tables (wordsAt rows w) (outputsLeave outs p (bit (getD excluded w 0) b)) n m b g s)
+    (g ≤ m) × (length hs ≡ signalWords)
+    × ((w b s : ℕ) → w < count → b < 64 → s < mostSignals → bit (getD (wordsAt hs w) s 0) b ≡ left arity fanins tables (wordsAt rows w) (outputsLeave outs p (bit (getD excluded w 0) b)) n m b g s)
 
 abbrev μ-loop : tie.MeasureT-loop
 μ-loop n m arity fanins tables excluded p outs rows count hs₀ edges g₀ hs g = g
 
-room : (c : tie.In-loop Inv-loop μ-loop) → c .before .before .before .before .before .args .n + (c .before .loop .g - 1) < 50
+room : (c : tie.In-loop Inv-loop μ-loop) → c .before .before .before .before .before .args .n + (c .before .loop .g - 1) < mostSignals
 room c = let s = c .before .before .before .before .before in omega (arith, s .pre .0 .ins, s .pre .0 .most)
 
-gate-ok : (c : tie.In-loop Inv-loop μ-loop) → GateOk (now (c .before .before .before .before .before .args .arity)) (now (c .before .before .before .before .before .args .fanins)) (c .before .loop .g - 1) 50
+gate-ok : (c : tie.In-loop Inv-loop μ-loop) → GateOk (now (c .before .before .before .before .before .args .arity)) (now (c .before .before .before .before .before .args .fanins)) (c .before .loop .g - 1) mostSignals
 gate-ok c = later (omega (arith, room c)) (c .before .before .before .before .before .pre .0 .gate (c .before .loop .g - 1) (omega arith))
 
 edge-tables-requires : tie.Need-edge-tables-requires Inv-loop μ-loop

@@ -5,6 +5,7 @@ use Prim.Native.Nat.{ℕ, _+_, _-_, _*_, _≤_, _<_}
 use native.Mathlib.Omega.{arith}
 use lib.ListN.{length, getD, length-set}
 use denote.Ref.{now}
+use Rattle.bits.specs.Bounds.{rowWords}
 use Rattle.bits.proofs.Ranges.{filled}
 use Rattle.simulate.specs.Simulated.{wordsAt}
 use Rattle.simulate.proofs.RowLaws.{words-at}
@@ -12,10 +13,10 @@ use Rattle.compatible.proofs.sets.row_of.Statement.{statement}
 use Rattle.compatible.proofs.sets.row_of.Tie as tie
 
 abbrev Inv-loop : tie.InvT-loop
-Inv-loop rows s l₀ w₀ l w = (w ≤ 16) × (length l ≡ 16) × ((v : ℕ) → v < w → getD l v 0 ≡ getD (wordsAt rows v) s 0)
+Inv-loop rows s l₀ w₀ l w = (w ≤ rowWords) × (length l ≡ rowWords) × ((v : ℕ) → v < w → getD l v 0 ≡ getD (wordsAt rows v) s 0)
 
 abbrev μ-loop : tie.MeasureT-loop
-μ-loop rows s l₀ w₀ l w = 16 - w
+μ-loop rows s l₀ w₀ l w = rowWords - w
 
 loop-holds : tie.Need-loop-holds Inv-loop μ-loop
 loop-holds c = (omega arith, refl, λ v h. absurd (omega arith))
@@ -50,7 +51,7 @@ loop-again c =
     let a = c .before .before .before .args in (
       omega arith,
       simp length-set (l .inv .1),
-      filled (l .l) (λ v. getD (wordsAt (now (a .rows)) v) (a .s) 0) (l .w) (getD (now (a .rows)) (16 * a .s + l .w) 0) (omega arith) (l .inv .2) (sym (words-at (now (a .rows)) (l .w) (a .s) (omega arith))),
+      filled (l .l) (λ v. getD (wordsAt (now (a .rows)) v) (a .s) 0) (l .w) (getD (now (a .rows)) (rowWords * a .s + l .w) 0) (omega arith) (l .inv .2) (sym (words-at (now (a .rows)) (l .w) (a .s) (omega arith))),
     )
 
 returns : tie.Need-returns Inv-loop μ-loop

@@ -7,31 +7,33 @@ use Prim.Native.Nat.{ℕ, _-_, _≤_, _<_}
 use native.Mathlib.Omega.{arith}
 use lib.ListN.{length, getD}
 use denote.Ref.{now}
+use Rattle.bits.specs.Bounds.{rowWords}
 use Rattle.bits.specs.Range.{every}
 use Rattle.bits.specs.Bit.{bit, column}
 use Rattle.bits.proofs.Ranges.{and-true}
+use Rattle.network.specs.Bounds.{mostFanins, mostSignals, signalWords}
 use Rattle.network.specs.Net.{entry}
 use Rattle.network.specs.Flat.{gateAt}
 use Rattle.simulate.specs.Simulated.{wordsAt}
 use Rattle.simulate.proofs.RowLaws.{words-long}
 use Rattle.compatible.specs.Words.{edge}
-use Rattle.compatible.proofs.Laws.{edge-step}
+use Rattle.compatible.proofs.BackwardSteps.{edge-step}
 use Rattle.compatible.proofs.sets.through_gate.Statement.{statement}
 use Rattle.compatible.proofs.sets.through_gate.Tie as tie
 
 abbrev Inv-loop : tie.InvT-loop
 Inv-loop arity fanins edges rows count own g hs₀ k free₀ r₀ hs free r =
-    (r ≤ k) × (length free ≡ 16) × (length hs ≡ 800)
+    (r ≤ k) × (length free ≡ rowWords) × (length hs ≡ signalWords)
     × ((ts : List ℕ) (w b s : ℕ) → w < count → b < 64
     → bit (getD (wordsAt hs w) s 0) b ≡ (bit (getD (wordsAt hs₀ w) s 0) b && every r (edge fanins edges g (getD own w 0) b (entry (column (wordsAt rows w) b) (gateAt arity fanins ts g)) s)))
 
 abbrev μ-loop : tie.MeasureT-loop
 μ-loop arity fanins edges rows count own g hs₀ k free₀ r₀ hs free r = k - r
 
-few : (c : tie.After-place Inv-loop μ-loop) → c .place .result ≤ 4
+few : (c : tie.After-place Inv-loop μ-loop) → c .place .result ≤ mostFanins
 few c = omega (arith, c .place .ensures, c .before .before .pre .1 .0 .few)
 
-early : (c : tie.After-fanin Inv-loop μ-loop) → c .fanin .result < 50
+early : (c : tie.After-fanin Inv-loop μ-loop) → c .fanin .result < mostSignals
 early c =
     let l = c .before .before .before .before .before in
     let pl = l .before in

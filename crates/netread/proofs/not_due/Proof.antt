@@ -1,0 +1,17 @@
+use mathlib.Core.List.{[], _∷_}
+use borrow.Author.Needs.{needs}
+use Rattle.netread.proofs.Marks.{unexpected, apart}
+use Rattle.netread.proofs.not_due.Statement.{statement}
+use Rattle.netread.proofs.not_due.Tie as tie
+
+enum-known-k : tie.Need-enum-known-k
+enum-known-k c = search needs
+
+returns : tie.Need-returns
+returns c = search needs
+
+returns-2 : tie.Need-returns-2
+returns-2 c = unexpected (c .before .args .k) (apart (0 ∷ 1 ∷ 2 ∷ 3 ∷ []) _ 4 tt (c .match .keys2))
+
+pub not-due-spec : {M : Type 1} → statement M
+not-due-spec = tie.close (tie.spec enum-known-k returns returns-2)
