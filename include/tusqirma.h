@@ -10,9 +10,12 @@
  *
  * A one in the excluded set means that the pattern NEVER comes.
  *
- * Buffers. Each is passed as a pointer and a length in elements. No pointer may be NULL, not even with length 0; it must
- * be aligned for its type, and that many elements must be there. Buffers of one call must not overlap. A call keeps no
+ * Buffers. Each is passed as a pointer and a length in elements. The pointer must be aligned for its type, and that many
+ * elements must be there; it may be null where the length is 0. Buffers of one call must not overlap. A call keeps no
  * pointer. What lies behind the elements that a call needs stays as it was.
+ *
+ * Threads and memory. The calls keep no state of their own, so threads may use different sessions at the same time, or
+ * read the same one. A call takes no heap, and up to 64 kB of stack.
  *
  * Refusals. TUSQIRMA_CLOSED_ENTRY and TUSQIRMA_HARM write the values that they name to the start of `out`, and nothing
  * else. In every other refusal each lent word and byte stays as it was. A session is written by tusqirma_load and

@@ -63,6 +63,34 @@ static void write_again(void)
     listing(file, (size_t)bytes[0]);
 }
 
+/* Each buffer of each call in turn null, with length 0; the others as the call needs them. */
+static void nulls(void)
+{
+    enum { WORDS = TUSQIRMA_SESSION_WORDS };
+    uint64_t out[TUSQIRMA_MOST_PATTERN_WORDS];
+    uint8_t bytes[TUSQIRMA_MOST_TEXT];
+    print("load, null file", tusqirma_load(NULL, 0, session, WORDS), out, 0);
+    print("load, null session", tusqirma_load(twin, sizeof twin, NULL, 0), out, 0);
+    print("tables, null session", tusqirma_tables(NULL, 0, 1, out, 4), out, 0);
+    print("tables, null out", tusqirma_tables(session, WORDS, 1, NULL, 0), out, 0);
+    print("all tables, null session", tusqirma_all_tables(NULL, 0, out, 12), out, 0);
+    print("all tables, null out", tusqirma_all_tables(session, WORDS, NULL, 0), out, 0);
+    print("pattern sets, null session", tusqirma_pattern_sets(NULL, 0, out, 6), out, 0);
+    print("pattern sets, null words", tusqirma_pattern_sets(session, WORDS, NULL, 0), out, 0);
+    print("hidden, null session", tusqirma_hidden(NULL, 0, out, 3), out, 0);
+    print("hidden, null out", tusqirma_hidden(session, WORDS, NULL, 0), out, 0);
+    print("verdict, null session", tusqirma_verdict(NULL, 0, 2, 0, out, 2), out, 0);
+    print("verdict, null out", tusqirma_verdict(session, WORDS, 2, 0, NULL, 0), out, 0);
+    print("exchange, null session", tusqirma_exchange(NULL, 0, 2, 0, out, 1), out, 0);
+    print("exchange, null out", tusqirma_exchange(session, WORDS, 2, 0, NULL, 0), out, 0);
+    print("write, null session", tusqirma_write(NULL, 0, bytes, sizeof bytes, out, 1), out, 0);
+    print("write, null file", tusqirma_write(session, WORDS, NULL, 0, out, 1), out, 0);
+    print("write, null out", tusqirma_write(session, WORDS, bytes, sizeof bytes, NULL, 0), out, 0);
+    print("listing, null text", tusqirma_listing(twin, sizeof twin, NULL, 0, out, 1), out, 0);
+    print("listing, null out", tusqirma_listing(twin, sizeof twin, bytes, sizeof bytes, NULL, 0), out, 0);
+    listing(NULL, 0);
+}
+
 static void refusals(void)
 {
     uint64_t out[4];
@@ -89,6 +117,7 @@ int main(void)
     exchange("exchange, gate 3 to C", 3, 0xC);
     exchange("exchange, gate 3 to 10", 3, 0x10);
     exchange("exchange, gate 4 to 0", 4, 0);
+    nulls();
     write_again();
     refusals();
     return 0;

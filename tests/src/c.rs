@@ -14,7 +14,7 @@ fn folders() -> (PathBuf, PathBuf) {
 }
 
 /// What a command prints, or what went wrong.
-fn printed(command: &mut Command) -> String {
+pub fn printed(command: &mut Command) -> String {
     let output = match command.output() {
         Ok(output) => output,
         Err(error) => return error.to_string(),
@@ -47,18 +47,7 @@ fn program(report: &mut Report, source: &str, input: &str, want: &str) {
     let file = File::open(root.join(input)).expect("a file of the repository");
     let got = printed(Command::new(&program).stdin(file));
     let _ = std::fs::remove_file(&program);
-    let (mut lines, mut due) = (got.lines(), want.lines());
-    loop {
-        let (line, want) = (lines.next(), due.next());
-        if line.is_none() && want.is_none() {
-            break;
-        }
-        let wrong = line != want;
-        report.count(
-            0,
-            wrong.then(|| format!("{source}: want {want:?}, got {line:?}")),
-        );
-    }
+    report.lines(source, &got, want);
 }
 
 pub fn compare(report: &mut Report) {

@@ -55,14 +55,14 @@ fn one_gate(n: u8, fanins: &[u8]) -> Vec<u8> {
 }
 
 /// The twin network with one byte changed.
-fn twin_but(at: usize, byte: u8) -> Vec<u8> {
+pub fn twin_but(at: usize, byte: u8) -> Vec<u8> {
     let mut file = TWIN.to_vec();
     file[at] = byte;
     file
 }
 
 /// The first bytes of the twin network, and others behind them.
-fn twin_to(end: usize, others: &[u8]) -> Vec<u8> {
+pub fn twin_to(end: usize, others: &[u8]) -> Vec<u8> {
     [&TWIN[..end], others].concat()
 }
 

@@ -17,6 +17,7 @@ mod networks;
 mod program;
 mod random;
 mod reference;
+mod refusals;
 mod report;
 mod sessions;
 mod short;
@@ -40,6 +41,7 @@ fn main() {
     let mut report = Report::default();
     report.part("C program", c::compare);
     report.part("binding's example", example::compare);
+    report.part("refusals in words", refusals::compare);
     report.part("program's input and output", program::compare);
     report.part("edges", files::edges);
     report.part("order of a file's tests", files::order);

@@ -121,6 +121,20 @@ impl Report {
         }
     }
 
+    /// Compares each line that a program prints with the one that is due.
+    pub fn lines(&mut self, program: &str, got: &str, want: &str) {
+        let (mut lines, mut due) = (got.lines(), want.lines());
+        loop {
+            let (line, want) = (lines.next(), due.next());
+            if line.is_none() && want.is_none() {
+                break;
+            }
+            let wrong = line != want;
+            let text = || format!("{program}: want {want:?}, got {line:?}");
+            self.count(0, wrong.then(text));
+        }
+    }
+
     /// Compares a call's whole outcome by each way: the answer, and each word and byte lent. Gives the outcome by 01.
     pub fn compare(&mut self, ways: &[Way], call: Call, lent: &Lent, case: &Case) -> (u64, Lent) {
         let (number, after) = outcome(call, lent);

@@ -9,9 +9,16 @@ fn main() -> Result<(), Refusal> {
         0x4E, 0x4F, 3, // the output is gate 3
     ];
     let mut session = Session::load(&file)?;
-    session.verdict(2, 0)?; // harmless alone
-    session.exchange(1, 0)?; // entry 1 of gate 1 is open
-    let answer = session.exchange(2, 0); // entry 1 of gate 2 is closed
-    assert_eq!(answer, Err(Refusal::ClosedEntry { entry: 1 }));
+    say("verdict, gate 2 to 0", session.verdict(2, 0));
+    say("exchange, gate 1 to 0", session.exchange(1, 0));
+    say("verdict, gate 2 to 0", session.verdict(2, 0));
+    say("exchange, gate 2 to 0", session.exchange(2, 0));
     Ok(())
+}
+
+fn say(asked: &str, answer: Result<(), Refusal>) {
+    match answer {
+        Ok(()) => println!("{asked}: yes"),
+        Err(refusal) => println!("{asked}: no, {refusal}"),
+    }
 }

@@ -8,6 +8,12 @@
 //! ```
 #![doc = include_str!("../examples/twin.rs")]
 //! ```
+//!
+//! prints
+//!
+//! ```text
+#![doc = include_str!("../examples/twin.txt")]
+//! ```
 #![deny(unsafe_code, missing_docs)]
 
 #[allow(missing_docs)]

@@ -2,8 +2,9 @@
 
 use std::fmt;
 
-/// Why a call was refused. A refused call changes nothing.
+/// Why a call was refused. A refused call changes nothing. Later versions may add refusals.
 #[derive(Clone, Copy, Debug, PartialEq, Eq)]
+#[non_exhaustive]
 pub enum Refusal {
     /// 1: bytes run out where a record is due or inside one.
     Truncated,
@@ -90,14 +91,33 @@ impl Refusal {
     }
 }
 
+/// In words, with the numbers that it names.
 impl fmt::Display for Refusal {
     fn fmt(&self, f: &mut fmt::Formatter<'_>) -> fmt::Result {
-        write!(f, "refused {}", self.number())?;
-        match self {
-            Refusal::ClosedEntry { entry } => write!(f, ": entry {entry}"),
-            Refusal::Harm { pattern, output } => write!(f, ": pattern {pattern}, output {output}"),
-            _ => Ok(()),
-        }
+        let words = match self {
+            Refusal::Truncated => "the file ends where a record is due or inside one",
+            Refusal::UnexpectedMark => "the file has a mark that is not due there",
+            Refusal::OutOfBounds => "the file has n, m, p or k outside its bounds",
+            Refusal::FaninNotEarlier => "the file has a fan-in that is not an earlier signal",
+            Refusal::FaninRepeated => "the file lists a fan-in twice in one gate",
+            Refusal::BitPastEnd => "the file has a bit past the end of a table or excluded set",
+            Refusal::NotASignal => "the file has an output that is not a signal",
+            Refusal::TrailingBytes => "the file has bytes after its last record",
+            Refusal::BufferTooShort => "a buffer is too short",
+            Refusal::InvalidState => "the session's words hold no network",
+            Refusal::NotAGate => "no gate has that signal number",
+            Refusal::TableTooWide => "the table has a bit past the gate's last entry",
+            Refusal::ClosedEntry { entry } => {
+                return write!(f, "the exchange alters entry {entry}, which is closed");
+            }
+            Refusal::Harm { pattern, output } => {
+                return write!(
+                    f,
+                    "the replacement changes output {output} at pattern {pattern}"
+                );
+            }
+        };
+        f.write_str(words)
     }
 }
 
