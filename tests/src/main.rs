@@ -21,6 +21,7 @@ mod refusals;
 mod report;
 mod sessions;
 mod short;
+mod stack;
 mod states;
 mod users;
 
@@ -47,6 +48,7 @@ fn main() {
     report.part("order of a file's tests", files::order);
     report.part("damaged files", |r| files::damaged(r, seed, count));
     report.part("random bytes", |r| files::random_bytes(r, seed, count));
+    report.part("stack", |r| stack::compare(r, seed));
     report.part("networks", |r| networks::compare(r, seed, count));
     report.part("sessions", |r| sessions::compare(r, seed, count));
     report.part("states made by hand", |r| states::compare(r, seed, count));
