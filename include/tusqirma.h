@@ -118,8 +118,8 @@ uint64_t tusqirma_all_tables(const uint64_t *session, size_t session_len, uint64
  * Two sets of patterns of each gate, gate after gate, to `words` (2 m W words, where W is 2^n / 64 and at least 1). Each
  * set fills W words; spare bits are zero. Refusals 9, 10.
  *   ODC  of the current network: the patterns at which inverting the gate's value changes no output
- *   H    the compatible set, of the loaded network: the patterns at which the gate's value may change while other gates'
- *        values change at theirs
+ *   H    the compatible set, of the loaded network: the patterns at which the gate's value does not matter, shared out so
+ *        that all gates may use theirs at once
  */
 uint64_t tusqirma_pattern_sets(const uint64_t *session, size_t session_len, uint64_t *words, size_t words_len);
 

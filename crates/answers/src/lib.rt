@@ -1,4 +1,4 @@
-// The calls in a session that is valid: what `engine` does after refusal 10, and a call for other languages after unpacking.
+// The calls, in a session that is valid: what `engine` does after refusal 10, and a call for other languages after unpacking.
 // Callers test the session.
 ghost use mathlib.Core.Path.{_≡_};
 ghost use mathlib.Core.Bool.{not, _&&_};

@@ -180,9 +180,9 @@ module _ (n : ℕ) (p : ℕ → Bool) (acc : ℕ) (so-far : acc ≡ tableOf n p)
   pub table-step : (b : Bool) (r : ℕ) → b ≡ p n → r ≡ num b * 2 ^ n + acc → r ≡ tableOf (n + 1) p
   table-step b r e q = q ∙ ap₂ (λ (x : Bool) (y : ℕ). num x * 2 ^ n + y) e so-far ∙ sym (table-more n p)
 
--- the powers that a table of up to four fan-ins meets
-pub entries-few : (k : ℕ) → k ≤ smallFanins → 2 ^ k ≤ smallWords
-entries-few k h = pow-mono {j = smallFanins} h
+-- there is a word for each entry, and for each set of fan-ins, of a small gate
+pub small-words : (k : ℕ) → k ≤ smallFanins → 2 ^ k ≤ smallWords
+small-words k h = pow-mono {j = smallFanins} h
 
 -- one turn of a loop that fills an array from the front
 pub filled : (l : List ℕ) (p : ℕ → ℕ) (i v : ℕ) → i < length l → ((q : ℕ) → q < i → getD l q 0 ≡ p q) → v ≡ p i

@@ -1,4 +1,4 @@
-// Words of bits: 64 patterns at once.
+// Words: one machine word. Bits, tables as numbers, lookup by arity, minterm words, the six fixed input words.
 ghost use mathlib.Core.Path.{_≡_};
 ghost use mathlib.Core.List.{[], _∷_};
 ghost use Prim.Native.Nat.{ℕ, _+_, _-_, _*_, _/_, _^_, _<_, _≤_};

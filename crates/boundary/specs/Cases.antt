@@ -6,7 +6,8 @@ use lib.ListN.{set, take, replicate}
 use Rattle.text.specs.Ascii.{ascii}
 use Rattle.network.specs.Net.{Replacement}
 use Rattle.network.specs.Cases.{twinBytes, twinSession}
-use Rattle.packed.specs.Packed.{packedOf, outputsStart, currentStart, sessionWords}
+use Rattle.render.specs.Listing.{mostListingBytes}
+use Rattle.packed.specs.Packed.{packedOf, arityStart, faninsStart, outputsStart, excludedStart, loadedStart, currentStart, openStart, sessionWords, byteWords}
 use Rattle.boundary.specs.Boundary.{Left, loadCall, listingCall, tablesCall, allTablesCall, patternSetsCall, hiddenCall, verdictCall, exchangeCall, writeCall}
 
 -- the twin network's session, with one word behind it
@@ -30,7 +31,12 @@ laid l = l .number ∷ l .buffer
 
 abbrev pub cases : List (List ℕ × List ℕ)
 cases =
-    (told (tablesCall words 1 (replicate 5 7)), 0 ∷ 6 ∷ 0 ∷ 2 ∷ 2 ∷ 7 ∷ [])
+    -- the layout of a session's words, and the most bytes of a listing
+    (arityStart ∷ faninsStart ∷ outputsStart ∷ excludedStart ∷ [], 3 ∷ 43 ∷ 283 ∷ 291 ∷ [])
+    ∷ (loadedStart ∷ currentStart ∷ openStart ∷ sessionWords ∷ [], 307 ∷ 347 ∷ 387 ∷ 427 ∷ [])
+    ∷ (byteWords ∷ mostListingBytes ∷ [], 291 ∷ 1042 ∷ [])
+    -- the twin network's questions
+    ∷ (told (tablesCall words 1 (replicate 5 7)), 0 ∷ 6 ∷ 0 ∷ 2 ∷ 2 ∷ 7 ∷ [])
     ∷ (told (allTablesCall words (replicate 13 7)), 0 ∷ 6 ∷ 0 ∷ 2 ∷ 2 ∷ 6 ∷ 0 ∷ 2 ∷ 0 ∷ 0x1E ∷ 6 ∷ 6 ∷ 2 ∷ 7 ∷ [])
     ∷ (laid (patternSetsCall words (replicate 7 7)), 0 ∷ 2 ∷ 2 ∷ 2 ∷ 0 ∷ 0 ∷ 0 ∷ 7 ∷ [])
     ∷ (told (hiddenCall words (replicate 4 7)), 0 ∷ 1 ∷ 0 ∷ 0 ∷ 7 ∷ [])

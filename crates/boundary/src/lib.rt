@@ -1,4 +1,4 @@
-// What the calls for programs in other languages share.
+// Other languages: what the calls say, in specs/, and share.
 ghost use mathlib.Core.Path.{_≡_};
 ghost use mathlib.Core.List.{[], _∷_};
 ghost use Prim.Native.Nat.{_*_, _≤_};

@@ -1,4 +1,4 @@
-// Bytes and words put into lent buffers, from a place on; all else in the buffer stays.
+// Words: bytes and words put into lent buffers, from a place on; all else in the buffer stays.
 ghost use mathlib.Core.Path.{_≡_};
 ghost use Prim.Native.Nat.{_+_, _%_, _≤_};
 ghost use lib.ListN.{length};

@@ -1,4 +1,4 @@
-// The calls for programs in other languages, as the library exports them: each is one call with the same contract.
+// Other languages: the names that the library exports, each one call of a crate above with the same contract.
 // A slice is passed as a pointer and a length. None has a `requires`.
 // Each returns the number of its refusal, or 0; a refusal changes nothing but the values that it names in `out`.
 ghost use mathlib.Core.Path.{_≡_};

@@ -1,4 +1,4 @@
-// The calls for other languages on a replacement: the verdict of a lone one, and the exchange.
+// Other languages: the calls on a replacement: the verdict of a lone one, and the exchange.
 ghost use mathlib.Core.Path.{_≡_};
 ghost use mathlib.Core.List.{[]};
 ghost use Rattle.boundary.specs.Boundary.{verdictCall, exchangeCall};

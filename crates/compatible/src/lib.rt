@@ -1,4 +1,4 @@
-// Rules 5 and 6: compatible sets of the loaded network, and how many patterns each has.
+// Of the loaded network: compatible sets and their counts, rules 5 and 6.
 ghost use mathlib.Core.Path.{_≡_};
 ghost use Prim.Native.Nat.{ℕ, _+_, _*_, _<_, _≤_};
 ghost use lib.Bits.{bitAnd};

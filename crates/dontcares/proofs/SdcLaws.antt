@@ -10,7 +10,7 @@ use lib.ListN.{getD}
 use lib.Pow.{pow-mono, pow-pos, shl-exact}
 use Rattle.bits.specs.Bit.{bit, differs, tableOf}
 use Rattle.bits.proofs.BitLaws.{bit-above, bit-ext, bit-high}
-use Rattle.bits.proofs.Ranges.{bit-table, table-lt, table-ext, entries-few}
+use Rattle.bits.proofs.Ranges.{bit-table, table-lt, table-ext, small-words}
 use Rattle.bits.proofs.Cuts.{table-not}
 use Rattle.network.specs.Bounds.{mostFanins, mostEntries}
 use Rattle.network.specs.Net.{Gate, arity}
@@ -52,7 +52,7 @@ module _ (k table : ℕ) (few : k ≤ mostFanins) (fits : table < 2 ^ 2 ^ k) whe
   -- the complement, shifted past the table in 64 bits
   pub sdc-sum : (c other : ℕ) → c ≡ 2 ^ k → other ≡ 2 ^ c - 1 - table → table + (other * 2 ^ c) % 2 ^ 64 ≡ tableOf (2 ^ (k + 1)) rule
   sdc-sum c other ec eo =
-      let small : c ≤ mostEntries = omega (arith, entries-few k few) in
+      let small : c ≤ mostEntries = omega (arith, small-words k few) in
       let below : other < 2 ^ c = omega (arith, pow-pos c) in
       ap (λ (x : ℕ). table + x)
       (shl-exact c c 64 below (omega arith) ∙ mul-comm other (2 ^ c) ∙ ap (λ (x : ℕ). 2 ^ c * x) eo ∙ ap (λ (i : ℕ). 2 ^ i * (2 ^ i - 1 - table)) ec)

@@ -1,4 +1,4 @@
-// Rules 1 to 4: don't-care sets and tables of the current network, 64 patterns a word.
+// Of the current network: SDC, CDC and full tables, rules 1, 2 and 4, from rows of words.
 ghost use mathlib.Core.Path.{_≡_};
 ghost use mathlib.Core.Bool.{_&&_, _||_, not};
 ghost use mathlib.Core.List.{List};

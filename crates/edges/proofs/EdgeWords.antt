@@ -17,7 +17,7 @@ use Rattle.bits.specs.Bounds.{gatePlaces, smallFanins, smallWords}
 use Rattle.bits.specs.Bit.{bit, choose, differs, tableOf}
 use Rattle.bits.proofs.BitLaws.{bit-and, bit-xor, bit-ext, bit-zero, bit-ones, bit-shr, bit-low, bit-high, bit-above, differs-true, power-own}
 use Rattle.bits.proofs.Logic.{beq-i, differs-e, differs-i}
-use Rattle.bits.proofs.Ranges.{and-l, and-r, and-i, or-r, and-true, by-cases, iff, every-e, every-i, lt-cases, table-lt, bit-table, entries-few}
+use Rattle.bits.proofs.Ranges.{and-l, and-r, and-i, or-r, and-true, by-cases, iff, every-e, every-i, lt-cases, table-lt, bit-table, small-words}
 use Rattle.network.specs.Net.{entry}
 use Rattle.network.specs.Compatible.{agree, constant, turns, freeFanins}
 use Rattle.network.specs.Flat.{gateAt}
@@ -177,7 +177,7 @@ constant-more k table f r t hf hr ht = iff (constant k table g t) ((constant k t
 
 -- of no fan-ins there is one: all entries
 pub constants-none : (table : ℕ) (rest : List ℕ) → Constants table ((2 ^ 64 - 1) ∷ rest) 1
-constants-none table rest k f t hk h hf ht = rw (lt-one h) (bit-ones 64 t (omega (arith, entries-few k hk)) ∙ sym (constant-none k table t ht))
+constants-none table rest k f t hk h hf ht = rw (lt-one h) (bit-ones 64 t (omega (arith, small-words k hk)) ∙ sym (constant-none k table t ht))
 
 -- one fan-in more; y is the table with it turned, and like has the entries at which the two are the same
 pub constants-more : (table : ℕ) (l₀ l : List ℕ) (r y like : ℕ) → ((t : ℕ) → t < 64 → bit y t ≡ bit table (bitXor t (2 ^ r))) → ((t : ℕ) → t < 64 → bit like t ≡ not (bit (bitXor table y) t))
@@ -185,7 +185,7 @@ pub constants-more : (table : ℕ) (l₀ l : List ℕ) (r y like : ℕ) → ((t 
 constants-more table l₀ l r y like turn flip d so-far k f t hk h hf ht = go (decLt f (2 ^ r)) (decLt r k)
   where
     few : t < 64
-    few = omega (arith, entries-few k hk)
+    few = omega (arith, small-words k hk)
 
     goal : ℕ → Type 0
     goal f = bit (getD l f 0) t ≡ constant k table f t
@@ -264,7 +264,7 @@ AtTurn k table l r = (h : ℕ) → h < 2 ^ (k - r) → (t : ℕ) → t < 2 ^ k �
 
 pub at-turn-start : (k table : ℕ) (l : List ℕ) → k ≤ smallFanins → Constants table l smallWords → AtTurn k table l 0
 unfolding turns
-at-turn-start k table l hk c h lh t ht = c k h t hk (omega (arith, entries-few k hk, simp sub-zero at lh)) (simp sub-zero at lh) ht ∙ ap (λ (f : ℕ). constant k table f t) (omega arith)
+at-turn-start k table l hk c h lh t ht = c k h t hk (omega (arith, small-words k hk, simp sub-zero at lh)) (simp sub-zero at lh) ht ∙ ap (λ (f : ℕ). constant k table f t) (omega arith)
 
 -- word 1 tells where fan-in r becomes free
 at-turn-own : (k table : ℕ) (l : List ℕ) (r : ℕ) → r < k → AtTurn k table l r → (t : ℕ) → t < 2 ^ k → bit (getD l 1 0) t ≡ constant k table (turns k table t r + 2 ^ r) t

@@ -1,4 +1,4 @@
-// Rule 6: the edge tables. Entry t of the edge table of fan-in r is set where the gate frees fan-in r at entry t.
+// Of the loaded network: edge tables, rule 6. Entry t of the edge table of fan-in r is set where the gate frees fan-in r at entry t.
 // All entries of a gate at once: a word has a bit for each, and word f is of the set f of fan-ins.
 ghost use mathlib.Core.Path.{_≡_};
 ghost use Prim.Native.Nat.{ℕ, _+_, _/_, _^_, _<_, _≤_};

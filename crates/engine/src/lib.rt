@@ -1,4 +1,4 @@
-// The calls of the engine: refusal 10, then the call in a valid session. None has a `requires`: whatever is passed, a call gives
+// The calls: refusal 10 and then the call in a valid session; load. None has a `requires`: whatever is passed, a call gives
 // what its definition says, refusals included.
 ghost use mathlib.Core.Path.{_≡_};
 ghost use Rattle.network.specs.declared.Answer.the-variants.{Done};

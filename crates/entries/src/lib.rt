@@ -1,4 +1,4 @@
-// Which entries of a gate some pattern of a word delivers.
+// Simulation: the entries of a gate that the patterns of a word give or deliver.
 ghost use mathlib.Core.Path.{_≡_};
 ghost use mathlib.Core.Bool.{_&&_};
 ghost use Prim.Native.Nat.{_^_, _≤_};

@@ -1,4 +1,4 @@
-// The calls for other languages on a file: a session from its bytes, its bytes from a session, its listing.
+// Other languages: the calls on a file. A session from its bytes, its bytes from a session, its listing.
 ghost use mathlib.Core.Path.{_≡_};
 ghost use mathlib.Core.List.{[]};
 ghost use Rattle.boundary.specs.Boundary.{loadCall, writeCall, listingCall};

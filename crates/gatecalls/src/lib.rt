@@ -1,4 +1,4 @@
-// The calls for other languages that tell what the gates of a session have: tables, pattern sets, counts.
+// Other languages: the calls that tell what the gates of a session have: tables, pattern sets, counts.
 ghost use mathlib.Core.Path.{_≡_};
 ghost use mathlib.Core.List.{[]};
 ghost use Rattle.boundary.specs.Boundary.{tablesCall, allTablesCall, patternSetsCall, hiddenCall};

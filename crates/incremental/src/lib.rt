@@ -1,4 +1,4 @@
-// Incremental simulation: rows of values under some tables become those under others. Rows as in `simulate`.
+// Simulation: the words of all signals under other tables, from words that are there. Rows as in `simulate`.
 ghost use mathlib.Core.Path.{_≡_};
 ghost use mathlib.Core.Bool.{true};
 ghost use Prim.Native.Nat.{ℕ, _+_, _*_, _<_, _≤_};

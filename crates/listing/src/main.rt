@@ -1,4 +1,4 @@
-// Prints the listing of the network file that comes on standard input.
+// Programs: prints the listing of the network file that comes on standard input.
 // No file that loads has as many bytes as are read, so these decide for any longer one.
 ghost use lib.ListN.{length};
 ghost use Rattle.listing.specs.Input.{Within};

@@ -1,4 +1,4 @@
-// A network file: from bytes to a network.
+// The file: from bytes to a network.
 ghost use mathlib.Core.Path.{_≡_};
 ghost use mathlib.Core.Bool.{true};
 ghost use Prim.Native.Nat.{_+_, _<_, _≤_};

@@ -3,12 +3,13 @@
 -- Assumes nothing.
 use mathlib.Core.Bool.{Bool}
 use mathlib.Core.List.{List, [], _∷_, _++_}
-use Prim.Native.Nat.{ℕ}
+use Prim.Native.Nat.{ℕ, _*_}
 use lib.ListN.{take, drop, set, replicate}
 use lib.Seq.{sets}
+use Rattle.bits.specs.Bounds.{mostInputs, rowWords, gatePlaces}
 use Rattle.bits.specs.Bit.{tableOf}
 use Rattle.network.specs.declared.Session.{Session}
-use Rattle.network.specs.Bounds.{mostGates, mostOutputs, faninPlaces, excludedWords}
+use Rattle.network.specs.Bounds.{mostGates, mostOutputs, mostFanins, mostEntries, mostSignals, faninPlaces, signalWords, gateWords, excludedWords, mostSetBytes, mostGateBytes, mostFileBytes}
 use Rattle.network.specs.Net.{Net, gate, patterns, Replacement, replaced}
 use Rattle.network.specs.DontCares.{sdc, cdc, odc, full}
 use Rattle.network.specs.Compatible.{freeFanins, compatible, compatibleCount, openTable}
@@ -46,7 +47,7 @@ held n m p exs ks fs ts os outs = record {
 }
 
 abbrev pub twinSession : Session
-twinSession = held 1 3 1 [] (1 ∷ 1 ∷ 2 ∷ []) (replicate 12 0 ++ 1 ∷ 2 ∷ []) (0x2 ∷ 0x2 ∷ 0xE ∷ []) (0x2 ∷ 0x0 ∷ 0x2 ∷ []) (3 ∷ [])
+twinSession = held 1 3 1 [] (1 ∷ 1 ∷ 2 ∷ []) (replicate (gatePlaces * 2) 0 ++ 1 ∷ 2 ∷ []) (0x2 ∷ 0x2 ∷ 0xE ∷ []) (0x2 ∷ 0x0 ∷ 0x2 ∷ []) (3 ∷ [])
 
 -- gate 1 is 0 whatever the input, gate 2 its inverse and the output; pattern 0 is excluded
 abbrev pub chainBytes : List ℕ
@@ -58,7 +59,7 @@ chainBytes =
     ∷ 0x4E ∷ 0x4F ∷ 0x02 ∷ []
 
 abbrev pub chainSession : Session
-chainSession = held 1 2 1 (1 ∷ []) (1 ∷ 1 ∷ []) (replicate 6 0 ++ 1 ∷ []) (0x0 ∷ 0x1 ∷ []) (0x1 ∷ 0x2 ∷ []) (2 ∷ [])
+chainSession = held 1 2 1 (1 ∷ []) (1 ∷ 1 ∷ []) (replicate gatePlaces 0 ++ 1 ∷ []) (0x0 ∷ 0x1 ∷ []) (0x1 ∷ 0x2 ∷ []) (2 ∷ [])
 
 -- gate 7 is the AND of inputs 5 and 6; the patterns 96 to 127, at which it is 1, are excluded, and some of the others
 abbrev pub wideBytes : List ℕ
@@ -182,6 +183,16 @@ wide =
     ∷ (setOf wideNet (compatible wideNet 7) ∷ [], 0xFFFFFFFF080402018040201008040201 ∷ [])
     ∷ (verdictSaid wideSession [] (to 7 0x0), [])
     ∷ (verdictSaid wideSession [] (to 7 0xC), 14 ∷ 65 ∷ 0 ∷ [])
+    ∷ []
+
+-- ## The bounds, and the sizes that follow from them
+
+abbrev pub sizes : List (List ℕ × List ℕ)
+sizes =
+    (mostInputs ∷ mostGates ∷ mostOutputs ∷ mostFanins ∷ [], 10 ∷ 40 ∷ 8 ∷ 4 ∷ [])
+    ∷ (mostSignals ∷ mostEntries ∷ faninPlaces ∷ [], 50 ∷ 16 ∷ 240 ∷ [])
+    ∷ (rowWords ∷ excludedWords ∷ signalWords ∷ gateWords ∷ [], 16 ∷ 16 ∷ 800 ∷ 640 ∷ [])
+    ∷ (mostSetBytes ∷ mostGateBytes ∷ mostFileBytes ∷ [], 128 ∷ 9 ∷ 519 ∷ [])
     ∷ []
 
 -- ## Refusals

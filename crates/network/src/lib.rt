@@ -1,3 +1,4 @@
+// The specification: the session type, and in specs/ the definitions of 01: values, rules 1 to 7, file, calls, lists of exchanges.
 ghost use mathlib.Core.Path.{_≡_};
 ghost use Prim.Native.Nat.{_≤_};
 ghost use Rattle.bits.specs.Bounds.{mostInputs};

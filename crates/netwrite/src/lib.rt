@@ -1,4 +1,4 @@
-// The bytes of a network, written into a lent buffer record after record.
+// The file: from a network to bytes, record after record in a lent buffer.
 ghost use mathlib.Core.Path.{_≡_};
 ghost use Prim.Native.Nat.{_+_, _*_, _<_, _≤_};
 ghost use lib.ListN.{length, take};

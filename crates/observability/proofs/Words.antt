@@ -52,13 +52,13 @@ module _ {n count live : ℕ} (f : Framed n count live) where
 
 -- ## The row of a gate in an array
 
--- the first i words of stretch g are those of f, and those before it are as they were
-abbrev pub Stretch : (f : ℕ → ℕ) (l₀ l : List ℕ) (g i : ℕ) → Type 0
-Stretch f l₀ l g i =
+-- the first i words of row g are those of f, and those before it are as they were
+abbrev pub RowFilled : (f : ℕ → ℕ) (l₀ l : List ℕ) (g i : ℕ) → Type 0
+RowFilled f l₀ l g i =
     (length l ≡ gateWords) × ((w : ℕ) → w < i → getD l (rowWords * g + w) 0 ≡ f w) × ((q : ℕ) → q < rowWords * g → getD l q 0 ≡ getD l₀ q 0)
 
-pub stretch-step : (f : ℕ → ℕ) (l₀ l : List ℕ) (g i v : ℕ) → rowWords * g + i < gateWords → Stretch f l₀ l g i → v ≡ f i → Stretch f l₀ (set l (rowWords * g + i) v) g (i + 1)
-stretch-step f l₀ l g i v h c e = (
+pub row-filled-step : (f : ℕ → ℕ) (l₀ l : List ℕ) (g i v : ℕ) → rowWords * g + i < gateWords → RowFilled f l₀ l g i → v ≡ f i → RowFilled f l₀ (set l (rowWords * g + i) v) g (i + 1)
+row-filled-step f l₀ l g i v h c e = (
   simp length-set (c .0),
   λ w lw. done w lw (ℕ-discrete w i),
   λ q lq. getD-set-other l (rowWords * g + i) q v 0 (λ s. absurd (omega arith)) ∙ c .2 q lq,

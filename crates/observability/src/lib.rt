@@ -1,4 +1,4 @@
-// Rule 3: where an output shows that a gate is inverted, 64 patterns a word. Word w of gate g stands at place ROW_WORDS * g + w.
+// Of the current network: the ODC, rule 3. Where an output shows that a gate is inverted, 64 patterns a word. Word w of gate g stands at place ROW_WORDS * g + w.
 ghost use mathlib.Core.Path.{_≡_};
 ghost use mathlib.Core.Bool.{_&&_, not};
 ghost use mathlib.Core.List.{List};

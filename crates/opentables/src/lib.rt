@@ -1,4 +1,4 @@
-// Rule 7: open tables of the loaded network, from the rows of the values and of H.
+// Of the loaded network: open tables, rule 7, from the rows of the values and of H.
 ghost use mathlib.Core.Path.{_≡_};
 ghost use Prim.Native.Nat.{_+_, _*_, _<_, _≤_};
 ghost use Rattle.bits.specs.Bounds.{mostInputs, rowWords};

@@ -1,4 +1,4 @@
-// A session in words that another program lends: one number to a word.
+// Other languages: a session in lent words, one number to a word.
 ghost use mathlib.Core.Path.{_≡_};
 ghost use Prim.Native.Nat.{ℕ, _+_, _<_, _≤_};
 ghost use lib.Dec.{ltb};

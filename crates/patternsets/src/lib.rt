@@ -1,4 +1,4 @@
-// The pattern sets of all gates in a lent buffer of words: each gate's words fill their own stretch, ODC first, then H.
+// The calls: the stretches of a lent buffer of words. Each gate's words fill their own, ODC first, then H.
 ghost use mathlib.Core.Path.{_≡_};
 ghost use mathlib.Core.List.{_++_};
 ghost use Prim.Native.Nat.{_+_, _*_, _<_, _≤_};

@@ -1,4 +1,4 @@
-// The listing of a file, rendered into a lent buffer.
+// Programs: the text of a listing, put into a lent buffer.
 ghost use mathlib.Core.Path.{_≡_};
 ghost use Prim.Native.Nat.{_+_, _*_, _<_, _≤_};
 ghost use lib.ListN.{length};

@@ -1,4 +1,4 @@
-// The values of all signals, 64 patterns a word. Row s holds the words of signal s: word w stands at place ROW_WORDS * s + w.
+// Simulation: the words of all signals, 64 patterns at a time. Row s holds the words of signal s: word w stands at place ROW_WORDS * s + w.
 ghost use mathlib.Core.Path.{_≡_};
 ghost use mathlib.Core.List.{List, [], _∷_};
 ghost use Prim.Native.Nat.{ℕ, _+_, _*_, _<_, _≤_};

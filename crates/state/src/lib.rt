@@ -1,4 +1,4 @@
-// The tests behind refusals 3 to 7, and behind refusal 10: whether a session is one that can be worked with.
+// The file: the tests of counts, fan-ins, tables and outputs, refusals 3 to 7, and of a session made by hand, refusal 10.
 ghost use mathlib.Core.Path.{_≡_};
 ghost use mathlib.Core.List.{[], _∷_, map};
 ghost use Prim.Native.Nat.{_-_, _*_, _^_, _<_, _≤_};

@@ -1,4 +1,4 @@
-// Numbers as text, put into a lent buffer. Quoted text needs no function of its own: `buffer::copy` of `b".."` meets `ascii` of the same words.
+// Words: numbers in decimal and hexadecimal, put into a lent buffer. Quoted text needs no function of its own: `buffer::copy` of `b".."` meets `ascii` of the same words.
 ghost use mathlib.Core.Path.{_≡_};
 ghost use Prim.Native.Nat.{_+_, _<_, _≤_};
 ghost use lib.ListN.{length};

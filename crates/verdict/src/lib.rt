@@ -1,4 +1,4 @@
-// The harm that a lone replacement does: the first pattern, and there the lowest output, at which the loaded outputs change.
+// The calls: the search for harm. The first pattern, and there the lowest output, at which a lone replacement changes the loaded outputs.
 ghost use mathlib.Core.Path.{_≡_};
 ghost use mathlib.Core.List.{[], _∷_};
 ghost use Prim.Native.Nat.{ℕ, _+_, _*_, _<_, _≤_};

@@ -9,7 +9,7 @@ use lib.Pow.{pow-mono}
 use lib.Seq.{getD-set-other}
 use Rattle.bits.specs.Bounds.{smallFanins, smallWords}
 use Rattle.bits.proofs.Cuts.{one-shl}
-use Rattle.bits.proofs.Ranges.{entries-few}
+use Rattle.bits.proofs.Ranges.{small-words}
 use Rattle.network.specs.Bounds.{faninPlaces}
 use Rattle.edges.specs.Edges.{edgeTable}
 use Rattle.edges.proofs.EdgeWords.{AtTurn, at-turn-start, at-turn-edge, at-turn-next, filled-from}
@@ -38,7 +38,7 @@ mask-requires : tie.Need-mask-requires Inv-loop μ-loop
 mask-requires c κs =
     let k = c .args .k in
     let e : (1 * 2 ^ k) % 2 ^ 32 ≡ 2 ^ k = one-shl k 32 (omega arith) in
-    omega (arith, e, entries-few k (omega arith))
+    omega (arith, e, small-words k (omega arith))
 
 constants-requires : tie.Need-constants-requires Inv-loop μ-loop
 constants-requires c κs = search needs

@@ -7,13 +7,13 @@ use native.Mathlib.Omega.{arith}
 use lib.ListN.{getD}
 use denote.Ref.{now}
 use Rattle.bits.specs.Bit.{bit, tableOf}
-use Rattle.observability.proofs.Words.{Stretch, stretch-step}
+use Rattle.observability.proofs.Words.{RowFilled, row-filled-step}
 use Rattle.observability.proofs.store_odc.Statement.{statement}
 use Rattle.observability.proofs.store_odc.Tie as tie
 
 abbrev Inv-loop : tie.InvT-loop
 Inv-loop odc₀ seen live count g w₀ odc w =
-    (w ≤ count) × Stretch (λ w. tableOf 64 (λ b. bit live b && not (bit (getD seen w 0) b))) odc₀ odc g w
+    (w ≤ count) × RowFilled (λ w. tableOf 64 (λ b. bit live b && not (bit (getD seen w 0) b))) odc₀ odc g w
 
 abbrev μ-loop : tie.MeasureT-loop
 μ-loop odc₀ seen live count g w₀ odc w = count - w
@@ -53,7 +53,7 @@ loop-again : tie.Need-loop-again Inv-loop μ-loop
 loop-again c =
     let l = c .before .before .before in
     let a = l .before .args in
-    (omega arith, stretch-step (λ w. tableOf 64 (λ b. bit (a .live) b && not (bit (getD (now (a .seen)) w 0) b))) (now (a .odc)) (l .loop .odc) (a .g) (l .loop .w) (c .odc-word .result) (omega arith) (l .loop .inv .1) (c .odc-word .ensures))
+    (omega arith, row-filled-step (λ w. tableOf 64 (λ b. bit (a .live) b && not (bit (getD (now (a .seen)) w 0) b))) (now (a .odc)) (l .loop .odc) (a .g) (l .loop .w) (c .odc-word .result) (omega arith) (l .loop .inv .1) (c .odc-word .ensures))
 
 returns : tie.Need-returns Inv-loop μ-loop
 returns c =
