@@ -10,9 +10,10 @@ use Rattle.bits.specs.Range.{_⇒_, every, count}
 use Rattle.bits.specs.Bit.{bit, column}
 use Rattle.bits.specs.Cut.{wordCount, Framed}
 use Rattle.network.specs.declared.Session.{Session}
+use Rattle.network.specs.Bounds.{mostSignals}
 use Rattle.network.specs.Net.{Net, entry}
-use Rattle.network.specs.Compatible.{compatible}
-use Rattle.network.specs.Flat.{gateAt, loadedNet, wordOf}
+use Rattle.network.specs.Compatible.{compatibleFrom, compatible}
+use Rattle.network.specs.Flat.{gateAt, gatesOf, loadedNet, wordOf}
 use Rattle.simulate.specs.Simulated.{wordsAt, Rows}
 
 -- what the first p outputs leave of the set of signal s: e tells whether the pattern is excluded
@@ -29,6 +30,13 @@ Passed ks fs es rows own hs new count g =
     (ts : List ℕ) (w b s : ℕ) → w < count → b < 64
     → bit (getD (wordsAt new w) s 0) b
     ≡ (bit (getD (wordsAt hs w) s 0) b && every (getD ks g 0) (edge fs es g (getD own w 0) b (entry (column (wordsAt rows w) b) (gateAt ks fs ts g)) s))
+
+-- rule 5 of all signals at each of the first `count` words: what the outputs leave of a signal's set and its edge sets, intersected
+abbrev pub Intersected : (ks fs ts ex outs rows hs : List ℕ) (n m p count : ℕ) → Type 0
+Intersected ks fs ts ex outs rows hs n m p count =
+    (w b s : ℕ) → w < count → b < 64 → s < mostSignals
+    → bit (getD (wordsAt hs w) s 0) b
+    ≡ compatibleFrom (outputsLeave outs p (bit (getD ex w 0) b)) (column (wordsAt rows w) b) n (gatesOf ks fs ts m) s
 
 -- the first `len` words of the compatible sets of the first c signals of N
 abbrev pub SetRows : (N : Net) (hs : List ℕ) (c len : ℕ) → Type 0

@@ -4,14 +4,12 @@ ghost use Prim.Native.Nat.{ℕ, _+_, _*_, _<_, _≤_};
 ghost use lib.Bits.{bitAnd, bitOr};
 ghost use lib.ListN.{length, getD, set};
 ghost use Rattle.bits.specs.Bounds.{rowWords};
-ghost use Rattle.bits.specs.Bit.{bit, column};
+ghost use Rattle.bits.specs.Bit.{bit};
 ghost use Rattle.network.specs.Bounds.{mostGates, mostSignals, signalWords};
-ghost use Rattle.network.specs.Net.{entry};
-ghost use Rattle.network.specs.Compatible.{compatibleFrom};
-ghost use Rattle.network.specs.Flat.{gatesOf, netOf};
+ghost use Rattle.network.specs.Flat.{netOf};
 ghost use Rattle.network.specs.Valid.{GateOk, NetOk, OutputsOk};
 ghost use Rattle.simulate.specs.Simulated.{wordsAt, Rows};
-ghost use Rattle.compatible.specs.Words.{outputsLeave, SetRows, Passed};
+ghost use Rattle.compatible.specs.Words.{outputsLeave, SetRows, Passed, Intersected};
 use bits::GATE_PLACES;
 use bits::ROW_WORDS;
 use network::EXCLUDED_WORDS;
@@ -128,7 +126,7 @@ fn intersected(
     requires { ⌜ NetOk (now arity) (now fanins) n m ⌝ }
     requires { ⌜ OutputsOk (now outs) p mostSignals ⌝ }
     requires { ⌜ count ≤ rowWords ⌝ }
-    ensures { λ _. ⌜ (length (now (hs .exit)) ≡ signalWords) × ((w b s : ℕ) → w < count → b < 64 → s < mostSignals → bit (getD (wordsAt (now (hs .exit)) w) s 0) b ≡ compatibleFrom (outputsLeave (now (outs .entry)) p (bit (getD (now (excluded .entry)) w 0) b)) (column (wordsAt (now (rows .entry)) w) b) n (gatesOf (now (arity .entry)) (now (fanins .entry)) (now (tables .entry)) m) s) ⌝ }
+    ensures { λ _. ⌜ (length (now (hs .exit)) ≡ signalWords) × Intersected (now (arity .entry)) (now (fanins .entry)) (now (tables .entry)) (now (excluded .entry)) (now (outs .entry)) (now (rows .entry)) (now (hs .exit)) n m p count ⌝ }
 {
     let edges = edges::edge_tables(m, arity, tables);
     at_outputs(p, outs, excluded, count, hs);

@@ -15,7 +15,7 @@ use Rattle.network.specs.declared.Session.{Session}
 use Rattle.network.specs.declared.Answer.{Answer}
 use Rattle.network.specs.declared.Answer.the-variants.{Done, Refused}
 use Rattle.network.specs.Bounds.{mostGates}
-use Rattle.network.specs.Net.{Gate, Net, arity, isGate, gate, entries, patterns, excludedFor, output, Replacement, withTable}
+use Rattle.network.specs.Net.{Gate, Net, isGate, gate, entries, patterns, excludedFor, output, Replacement, withTable}
 use Rattle.network.specs.Compatible.{closed}
 use Rattle.network.specs.Flat.{gateAt, netOf, netWith, loadedNet, currentNet}
 use Rattle.network.specs.State.{stateFault}
