@@ -47,12 +47,12 @@ pub fn pattern_sets(session: &[u64], words: &mut [u64]) -> u64
 {
     let l = packed::unpack(session);
     let tested = l.answer;
-    if let Answer::Refused(r) = tested {
-        return network::number_of(r);
+    if let Answer::Refused(unfit) = tested {
+        return network::number_of(unfit);
     }
     let a = answers::pattern_sets(l.session, words);
-    if let Answer::Refused(r) = a {
-        return network::number_of(r);
+    if let Answer::Refused(short) = a {
+        return network::number_of(short);
     }
     0
 }
