@@ -71,7 +71,7 @@ ones-are {n} {W} {live} f at ws q words = by W (omega arith) ∙ count-cut f q
 
 -- ## One place a gate
 
--- one more gate's word w, sixteen words a gate
+-- one more gate's word w, a row for each gate
 pub stored : (l : List ℕ) (p : ℕ → ℕ) (w i v : ℕ) → rowWords * i + w < length l → ((q : ℕ) → q < i → getD l (rowWords * q + w) 0 ≡ p q) → v ≡ p i
     → (q : ℕ) → q < i + 1 → getD (set l (rowWords * i + w) v) (rowWords * q + w) 0 ≡ p q
 stored l p w i v h so-far e q lq = go (ℕ-discrete q i)

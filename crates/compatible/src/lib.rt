@@ -76,7 +76,7 @@ fn store_word(
     }
 }
 
-// H of each gate, sixteen words a gate, by the rows of H.
+// H of each gate, a row for each, by the rows of H.
 pub fn sets_from(s: Session, hs: &[u64; SIGNAL_WORDS], live: u64, count: usize) -> [u64; GATE_WORDS]
     requires { ⌜ stateFault s ≡ Answer.Done ⌝ }
     requires { ⌜ LoadedSets s (now hs) count live ⌝ }

@@ -13,13 +13,13 @@ use Rattle.network.specs.Compatible.{constant, turns}
 unfoldable pub edgeTable : (k table r : ℕ) → ℕ
 edgeTable k table r = tableOf (2 ^ k) (λ t. bit (turns k table t k) r)
 
--- the edge tables of the first m gates, gate g's at places 6 g and on
+-- the edge tables of the first m gates, gate g's at places gatePlaces g and on
 abbrev pub Edged : (arity tables edges : List ℕ) (m : ℕ) → Type 0
 Edged ks ts es m = (g : ℕ) → g < m → (r : ℕ) → r < getD ks g 0 → getD es (gatePlaces * g + r) 0 ≡ edgeTable (getD ks g 0) (getD ts g 0) r
 
 -- ## All entries at once: word f is of the set f of fan-ins, and has a bit for each entry
 
--- the first n words: where the table, of a gate of any number k of fan-ins up to four, is constant over all values of the fan-ins in f
+-- the first n words: where the table, of a gate of any number k of fan-ins up to smallFanins, is constant over all values of the fan-ins in f
 abbrev pub Constants : (table : ℕ) (words : List ℕ) (n : ℕ) → Type 0
 Constants table l n = (k f t : ℕ) → k ≤ smallFanins → f < n → f < 2 ^ k → t < 2 ^ k → bit (getD l f 0) t ≡ constant k table f t
 

@@ -42,7 +42,7 @@ fn double(words: &mut [u64; SMALL_WORDS], r: usize, like: u64)
 }
 
 // For each set of fan-ins, the entries at which the table is constant over all their values, the rest held.
-// All four fan-ins are counted: a gate that has fewer finds its sets first.
+// All fan-ins of a small gate are counted: one that has fewer finds its sets first.
 fn constants(table: u64) -> [u64; SMALL_WORDS]
     ensures { λ l. ⌜ Constants table l smallWords ⌝ }
 {
@@ -73,7 +73,7 @@ fn halve(words: &mut [u64; SMALL_WORDS], size: usize, free: u64)
 }
 
 // The edge tables of a gate, at place at and on. At the turn of fan-in r, word h is of the fan-ins already free and of those of h, counted from r.
-// Four turns are always taken, which is quicker than to stop after k: what stands past the k tables is not read.
+// All turns of a small gate are always taken, which is quicker than to stop after k: what stands past the k tables is not read.
 fn gate_edges(k: usize, table: u64, at: usize, edges: &mut [u64; FANIN_PLACES])
     requires { ⌜ (k ≤ smallFanins) × (at + gatePlaces ≤ faninPlaces) ⌝ }
     requires { ⌜ length (now edges) ≡ faninPlaces ⌝ }
@@ -90,7 +90,7 @@ fn gate_edges(k: usize, table: u64, at: usize, edges: &mut [u64; FANIN_PLACES])
     }
 }
 
-// The edge tables of the first m gates, six places a gate.
+// The edge tables of the first m gates, GATE_PLACES places a gate.
 pub fn edge_tables(
     m: usize,
     arity: &[u8; MOST_GATES],

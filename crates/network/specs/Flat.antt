@@ -12,7 +12,7 @@ use Rattle.bits.specs.Cut.{wordCount}
 use Rattle.network.specs.declared.Session.{Session}
 use Rattle.network.specs.Net.{Gate, Net}
 
--- gate g has its k fan-ins at places 6 g and on
+-- gate g has its k fan-ins at places gatePlaces g and on
 abbrev pub faninsAt : (arity fanins : List ℕ) → ℕ → List ℕ
 faninsAt ks fs g = places (getD ks g 0) (λ r. getD fs (gatePlaces * g + r) 0)
 

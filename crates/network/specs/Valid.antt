@@ -8,7 +8,7 @@ use Rattle.bits.specs.Bounds.{mostInputs, gatePlaces}
 use Rattle.network.specs.declared.Session.{Session}
 use Rattle.network.specs.Bounds.{mostGates, mostOutputs, mostFanins, faninPlaces, excludedWords}
 
--- gate g has one to four fan-ins, each a signal below e
+-- gate g has one to mostFanins fan-ins, each a signal below e
 pub record GateOk (arity fanins : List ℕ) (g e : ℕ) : Type 0 where
   pub some : 1 ≤ getD arity g 0
   pub few : getD arity g 0 ≤ mostFanins

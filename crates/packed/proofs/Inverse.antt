@@ -27,7 +27,7 @@ use Rattle.packed.proofs.Parts.{cut, join, regroup, three, part-before,
 
 -- ## A session and its words
 
--- a packed session has 427 words
+-- how many words a packed session has
 pub packed-length : (s : Session) → Shaped s → length (packedOf s) ≡ sessionWords
 unfolding packedOf
 packed-length s z =
