@@ -1,4 +1,3 @@
-pub mod Silent
 pub mod Names
 pub mod Leaves
 pub mod Fills

@@ -16,6 +16,7 @@ use Rattle.network.specs.Refusals.{valuesOf}
 use Rattle.network.specs.Tests.{refuseIf, orElse, first}
 use Rattle.network.specs.State.{stateFault, asInvalid, stateTest}
 use Rattle.network.specs.Calls.{gateTest, fits, tableTest, roomTest}
+use Rattle.network.proofs.Said.{quiet}
 use Rattle.packed.specs.Packed.{sessionWords, byteWords, sessionIn, allBytes, bytesTest, wordsTest}
 use Rattle.boundary.specs.Boundary.{valuesFor}
 

@@ -5,7 +5,7 @@ use Prim.Native.Nat.{ℕ, _+_, _-_}
 use lib.ListN.{set, take, replicate}
 use Rattle.text.specs.Ascii.{ascii}
 use Rattle.network.specs.Net.{Replacement}
-use Rattle.network.specs.Cases.{twinBytes, twinSession}
+use Rattle.network.specs.Examples.{twinBytes, twinSession}
 use Rattle.render.specs.Listing.{mostListingBytes}
 use Rattle.packed.specs.Packed.{packedOf, arityStart, faninsStart, outputsStart, excludedStart, loadedStart, currentStart, openStart, sessionWords, byteWords}
 use Rattle.boundary.specs.Boundary.{Left, loadCall, listingCall, tablesCall, allTablesCall, patternSetsCall, hiddenCall, verdictCall, exchangeCall, writeCall}
@@ -23,8 +23,8 @@ abbrev pub changed : List ℕ
 changed = set words currentStart 0
 
 -- the number and every word of out; the number and every place of the buffer
-abbrev pub told : Left → List ℕ
-told l = l .number ∷ l .out
+abbrev pub given : Left → List ℕ
+given l = l .number ∷ l .out
 
 abbrev pub laid : Left → List ℕ
 laid l = l .number ∷ l .buffer
@@ -36,27 +36,27 @@ cases =
     ∷ (loadedStart ∷ currentStart ∷ openStart ∷ sessionWords ∷ [], 307 ∷ 347 ∷ 387 ∷ 427 ∷ [])
     ∷ (byteWords ∷ mostListingBytes ∷ [], 291 ∷ 1042 ∷ [])
     -- the twin network's questions
-    ∷ (told (tablesCall words 1 (replicate 5 7)), 0 ∷ 6 ∷ 0 ∷ 2 ∷ 2 ∷ 7 ∷ [])
-    ∷ (told (allTablesCall words (replicate 13 7)), 0 ∷ 6 ∷ 0 ∷ 2 ∷ 2 ∷ 6 ∷ 0 ∷ 2 ∷ 0 ∷ 0x1E ∷ 6 ∷ 6 ∷ 2 ∷ 7 ∷ [])
+    ∷ (given (tablesCall words 1 (replicate 5 7)), 0 ∷ 6 ∷ 0 ∷ 2 ∷ 2 ∷ 7 ∷ [])
+    ∷ (given (allTablesCall words (replicate 13 7)), 0 ∷ 6 ∷ 0 ∷ 2 ∷ 2 ∷ 6 ∷ 0 ∷ 2 ∷ 0 ∷ 0x1E ∷ 6 ∷ 6 ∷ 2 ∷ 7 ∷ [])
     ∷ (laid (patternSetsCall words (replicate 7 7)), 0 ∷ 2 ∷ 2 ∷ 2 ∷ 0 ∷ 0 ∷ 0 ∷ 7 ∷ [])
-    ∷ (told (hiddenCall words (replicate 4 7)), 0 ∷ 1 ∷ 0 ∷ 0 ∷ 7 ∷ [])
+    ∷ (given (hiddenCall words (replicate 4 7)), 0 ∷ 1 ∷ 0 ∷ 0 ∷ 7 ∷ [])
     ∷ (laid (exchangeCall words (cleared 1) (7 ∷ [])), 0 ∷ changed)
-    ∷ (told (exchangeCall words (cleared 2) (7 ∷ 7 ∷ [])), 13 ∷ 1 ∷ 7 ∷ [])
+    ∷ (given (exchangeCall words (cleared 2) (7 ∷ 7 ∷ [])), 13 ∷ 1 ∷ 7 ∷ [])
     ∷ (laid (exchangeCall words (cleared 2) (7 ∷ 7 ∷ [])), 13 ∷ words)
-    ∷ (told (verdictCall words (cleared 2) (7 ∷ 7 ∷ [])), 0 ∷ 7 ∷ 7 ∷ [])
-    ∷ (told (verdictCall changed (cleared 2) (7 ∷ 7 ∷ [])), 14 ∷ 1 ∷ 0 ∷ [])
-    ∷ (told (writeCall words (replicate 28 7) (7 ∷ [])), 0 ∷ 27 ∷ [])
+    ∷ (given (verdictCall words (cleared 2) (7 ∷ 7 ∷ [])), 0 ∷ 7 ∷ 7 ∷ [])
+    ∷ (given (verdictCall changed (cleared 2) (7 ∷ 7 ∷ [])), 14 ∷ 1 ∷ 0 ∷ [])
+    ∷ (given (writeCall words (replicate 28 7) (7 ∷ [])), 0 ∷ 27 ∷ [])
     ∷ (laid (writeCall words (replicate 28 7) (7 ∷ [])), 0 ∷ twinBytes ++ 7 ∷ [])
     -- a loaded file, and the line of a refused one
     ∷ (laid (loadCall twinBytes (replicate (sessionWords + 1) 9)), 0 ∷ words)
-    ∷ (told (listingCall (take 26 twinBytes) (replicate 11 7) (7 ∷ 7 ∷ [])), 0 ∷ 10 ∷ 7 ∷ [])
+    ∷ (given (listingCall (take 26 twinBytes) (replicate 11 7) (7 ∷ 7 ∷ [])), 0 ∷ 10 ∷ 7 ∷ [])
     ∷ (laid (listingCall (take 26 twinBytes) (replicate 11 7) (7 ∷ 7 ∷ [])), 0 ∷ ascii "refused 1\n" ++ 7 ∷ [])
     -- a refusal leaves what is lent: too short, no session, no room, no gate
-    ∷ (told (exchangeCall (take (sessionWords - 1) words) (cleared 1) []), 9 ∷ [])
-    ∷ (told (exchangeCall (replicate sessionWords 0) (cleared 1) []), 10 ∷ [])
-    ∷ (told (exchangeCall (set words (outputsStart - 1) 256) (cleared 1) (7 ∷ [])), 10 ∷ 7 ∷ [])
-    ∷ (told (verdictCall words (cleared 0) (7 ∷ [])), 9 ∷ 7 ∷ [])
-    ∷ (told (tablesCall words 4 (replicate 4 7)), 11 ∷ 7 ∷ 7 ∷ 7 ∷ 7 ∷ [])
+    ∷ (given (exchangeCall (take (sessionWords - 1) words) (cleared 1) []), 9 ∷ [])
+    ∷ (given (exchangeCall (replicate sessionWords 0) (cleared 1) []), 10 ∷ [])
+    ∷ (given (exchangeCall (set words (outputsStart - 1) 256) (cleared 1) (7 ∷ [])), 10 ∷ 7 ∷ [])
+    ∷ (given (verdictCall words (cleared 0) (7 ∷ [])), 9 ∷ 7 ∷ [])
+    ∷ (given (tablesCall words 4 (replicate 4 7)), 11 ∷ 7 ∷ 7 ∷ 7 ∷ 7 ∷ [])
     -- the file's refusals come before the session's room
     ∷ (laid (loadCall (take 26 twinBytes) (7 ∷ [])), 1 ∷ 7 ∷ [])
     ∷ (laid (loadCall twinBytes (7 ∷ [])), 9 ∷ 7 ∷ [])

@@ -28,17 +28,11 @@ pub fn tell_refusal(r: Refusal, out: &mut [u64]) -> u64
     requires { ⌜ length (valuesOf r) ≤ length (now out) ⌝ }
     ensures { λ k. ⌜ (k ≡ numberOf r) × (now (out .exit) ≡ overwritten (valuesOf r) (now (out .entry))) ⌝ }
 {
-    if let Refusal::ClosedEntry(t) = r {
-        let named = [t as u64];
-        give(&named, out);
-        return 13;
-    }
-    if let Refusal::Harm { pattern, output } = r {
-        let named = [pattern as u64, output as u64];
-        give(&named, out);
-        return 14;
-    }
-    network::number_of(r)
+    let t = network::told(r);
+    let count = t.1;
+    let values = t.2;
+    give(&values[0..count], out);
+    t.0
 }
 
 // What was refused before, then 9 where fewer places are lent than needed.

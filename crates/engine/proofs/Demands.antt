@@ -13,7 +13,6 @@ use Rattle.bits.proofs.Ranges.{length-places, places-at}
 use Rattle.bits.proofs.Logic.{clash}
 use Rattle.network.specs.declared.Session.{Session}
 use Rattle.network.specs.declared.TablesAnswer.the-variants as tables
-use Rattle.network.specs.declared.Refusal.the-variants.{Harm}
 use Rattle.network.specs.declared.Answer.{Answer}
 use Rattle.network.specs.declared.Answer.the-variants.{Done, Refused}
 use Rattle.network.specs.Bounds.{mostGates}
@@ -21,6 +20,7 @@ use Rattle.network.specs.Net.{Net, isGate, patterns, Replacement}
 use Rattle.network.specs.Compatible.{compatibleCount, openTable}
 use Rattle.network.specs.Flat.{loadedNet}
 use Rattle.network.specs.Valid.{Shaped}
+use Rattle.network.specs.Refusals.{said}
 use Rattle.network.specs.Tests.{first}
 use Rattle.network.specs.State.{stateTest}
 use Rattle.network.specs.Load.{loadDone, onward, readOf, opened, loadOf}
@@ -32,8 +32,9 @@ use Rattle.network.proofs.Valid.{valid-e, state-e, state-i}
 use Rattle.network.proofs.Fresh.{Fresh}
 use Rattle.network.proofs.Exchanges.{loaded-length, loaded-inputs, gate-e, open-at, gates-most, after-is, after-valid, after-loaded}
 use Rattle.network.proofs.Reached.{loaded-fresh, loaded-shaped}
-use Rattle.network.proofs.Harm.{harm-done, harm-at}
+use Rattle.network.proofs.Harm.{harm-done, harm-none, harm-at}
 use Rattle.network.proofs.Demand3.{demand3-of, rule4-of}
+use Rattle.network.proofs.Inside.{inside-of}
 use Rattle.roundtrip.proofs.RoundTrip.{round-trip}
 use Rattle.engine.specs.Demands.{Ends, Demand1, lone, Changes, Judged, Reached, Demand2, Demand3}
 use Rattle.engine.proofs.Outcomes.{file, ends, harm-only, tests-end, room-among, state-among, gate-among, table-among, closed-among, harm-among, read-among}
@@ -102,26 +103,26 @@ verdict-is : (s : Session) (r : Replacement) → Judged s r → verdictOf s r �
 unfolding verdictOf gateTest tableTest
 verdict-is s r j = rw (j .0, j .1, j .2) (sym (alone (harmTest (loadedNet s) (lone s r))))
 
--- what is said of an answer, said of one that equals it
-same-answer : {P : Type 0} (a b c : Answer) → a ≡ b → (b ≡ c) ↔ P → (a ≡ c) ↔ P
-same-answer a b c e h = (λ k. h .0 (sym e ∙ k), λ p. e ∙ h .1 p)
+-- what an answer says exactly where P holds, one that equals it says too
+same-said : {P : Type 0} (a b : Answer) (l : List ℕ) → a ≡ b → (said b ≡ l) ↔ P → (said a ≡ l) ↔ P
+same-said a b l e h = (λ k. h .0 (ap said (sym e) ∙ k), λ p. ap said e ∙ h .1 p)
 
 module _ (s : Session) (r : Replacement) (j : Judged s r) where
   abbrev L : Net
   L = loadedNet s
 
-  shown-at : (x i : ℕ) → (verdictOf s r ≡ Refused (Harm x i)) ↔ FirstHarm L (lone s r) x i
-  shown-at x i = same-answer _ _ _ (verdict-is s r j) (harm-at L (lone s r) x i)
+  shown-at : (x i : ℕ) → (said (verdictOf s r) ≡ 14 ∷ x ∷ i ∷ []) ↔ FirstHarm L (lone s r) x i
+  shown-at x i = same-said _ _ _ (verdict-is s r j) (harm-at L (lone s r) x i)
 
-  harmless-is : (verdictOf s r ≡ Done) ↔ NoHarm L (lone s r) (patterns L)
-  harmless-is = same-answer _ _ _ (verdict-is s r j) (harm-done L (lone s r))
+  harmless-is : (said (verdictOf s r) ≡ []) ↔ NoHarm L (lone s r) (patterns L)
+  harmless-is = same-said _ _ _ (verdict-is s r j) (harm-none L (lone s r))
 
-  harmful-is : ((x : ℕ) × (i : ℕ) × (verdictOf s r ≡ Refused (Harm x i))) ↔ ((x : ℕ) × (i : ℕ) × Changes s r x i)
+  harmful-is : ((x : ℕ) × (i : ℕ) × (said (verdictOf s r) ≡ 14 ∷ x ∷ i ∷ [])) ↔ ((x : ℕ) × (i : ℕ) × Changes s r x i)
   harmful-is = (
     λ f. let h = shown-at (f .0) (f .1) .0 (f .2) in
         (f .0, f .1, (h .pattern, h .output, h .harm)),
     λ f. ⊎-elim (λ e. clash (f .2 .2) (harm-done L (lone s r) .0 e (f .0) (f .1) (f .2 .0) (f .2 .1)))
-        (λ h. (h .0, h .1, verdict-is s r j ∙ h .2)) (harm-only L (lone s r)),
+        (λ h. (h .0, h .1, ap said (verdict-is s r j ∙ h .2))) (harm-only L (lone s r)),
   )
 
 -- ## In every session that a load and exchanges give
@@ -173,6 +174,7 @@ demand2 = record {
       (w .session, w .reads, w .loaded, w .current);
   reached = λ bytes s rs b loads. after-reached s (loaded-fresh bytes s loads) rs (loaded-shaped bytes s b loads);
   rule4 = rule4-of;
+  inside = inside-of;
 }
 
 -- ## Demand 3

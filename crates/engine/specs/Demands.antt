@@ -10,7 +10,6 @@ use lib.ListN.{length, getD}
 use Rattle.bits.specs.Lists.{Bytes, overwritten}
 use Rattle.network.specs.declared.Session.{Session}
 use Rattle.network.specs.declared.Refusal.{Refusal}
-use Rattle.network.specs.declared.Refusal.the-variants.{Harm}
 use Rattle.network.specs.declared.Answer.the-variants.{Done, Refused}
 use Rattle.network.specs.declared.TablesAnswer.the-variants as tables
 use Rattle.network.specs.declared.WriteAnswer.the-variants as write
@@ -19,13 +18,13 @@ use Rattle.network.specs.DontCares.{sdc, cdc, full, harms}
 use Rattle.network.specs.Compatible.{compatibleCount, openTable}
 use Rattle.network.specs.Flat.{loadedNet, currentNet}
 use Rattle.network.specs.Valid.{Shaped}
-use Rattle.network.specs.Refusals.{numberOf}
+use Rattle.network.specs.Refusals.{numberOf, said}
 use Rattle.network.specs.Tests.{member}
 use Rattle.network.specs.State.{stateTest}
 use Rattle.network.specs.Load.{loadDone, loadRefused, readOf, opened, loadOf}
 use Rattle.network.specs.Write.{bytesOf}
 use Rattle.network.specs.Calls.{fits, stored, exchangeOf, verdictOf, gateTables, tablesOf, setWords, patternSetsOf, countsOf, countsFor, writtenOf}
-use Rattle.network.specs.Sessions.{after, Demand3Of, NoHarm, FirstHarm, Rule4Of}
+use Rattle.network.specs.Sessions.{after, Demand3Of, NoHarm, FirstHarm, Rule4Of, InsideOf}
 
 -- ## Demand 1: for every file, buffer, table and session state, a call ends in one of the listed outcomes, or in a numbered refusal
 -- that changes neither state nor lent buffer
@@ -98,11 +97,11 @@ pub record Demand2 : Type 0 where
   pub counts : (s : Session) (g : ℕ) → stateTest s ≡ Done → g < s .m → getD (countsOf s .counts) g 0 ≡ compatibleCount (loadedNet s) (s .n + g)
   -- a lone replacement is found harmful exactly when some pattern that is not excluded changes an output
   pub harmful : (s : Session) (r : Replacement) → Judged s r
-      → ((x : ℕ) × (i : ℕ) × (verdictOf s r ≡ Refused (Harm x i))) ↔ ((x : ℕ) × (i : ℕ) × Changes s r x i)
+      → ((x : ℕ) × (i : ℕ) × (said (verdictOf s r) ≡ 14 ∷ x ∷ i ∷ [])) ↔ ((x : ℕ) × (i : ℕ) × Changes s r x i)
   -- the pattern and the output that are shown: the smallest pattern and, there, the lowest output
-  pub shown : (s : Session) (r : Replacement) (x i : ℕ) → Judged s r → (verdictOf s r ≡ Refused (Harm x i)) ↔ FirstHarm (loadedNet s) (lone s r) x i
+  pub shown : (s : Session) (r : Replacement) (x i : ℕ) → Judged s r → (said (verdictOf s r) ≡ 14 ∷ x ∷ i ∷ []) ↔ FirstHarm (loadedNet s) (lone s r) x i
   -- and else harmless
-  pub harmless : (s : Session) (r : Replacement) → Judged s r → (verdictOf s r ≡ Done) ↔ NoHarm (loadedNet s) (lone s r) (patterns (loadedNet s))
+  pub harmless : (s : Session) (r : Replacement) → Judged s r → (said (verdictOf s r) ≡ []) ↔ NoHarm (loadedNet s) (lone s r) (patterns (loadedNet s))
   -- a network is written into every buffer that is long enough
   pub written : (s : Session) (buffer : List ℕ) → stateTest s ≡ Done → length (bytesOf s) ≤ length buffer
       → writtenOf s buffer ≡ record { answer = write.Written (length (bytesOf s)); buffer = overwritten (bytesOf s) buffer }
@@ -113,6 +112,8 @@ pub record Demand2 : Type 0 where
   pub reached : (bytes : List ℕ) (s : Session) (rs : List Replacement) → Bytes bytes → loadOf bytes ≡ loadDone s → Reached s (after s rs)
   -- and there a lone replacement is harmless exactly when it alters only entries of the full table
   pub rule4 : Rule4Of
+  -- of the loaded table too; each open entry is one of the full table, and an exchange that is accepted is harmless
+  pub inside : InsideOf
 
 -- ## Demand 3: of every list of bytes that loads and every list of exchanges
 

@@ -1,7 +1,7 @@
 -- Demand 3, proved of every session fresh from a load and every list of exchanges, and with it rule 4 in all of these sessions. Assumes nothing.
 use mathlib.Core.Path.{_≡_, refl, sym, ap, _∙_, subst}
 use mathlib.Core.Logic.{_≢_}
-use mathlib.Core.Bool.{Bool, true, false, _&&_}
+use mathlib.Core.Bool.{Bool, true, false, cond, _&&_}
 use mathlib.Core.List.{List, [], _∷_, _++_, map, map-append}
 use Prim.Native.Nat.{ℕ, _+_, _-_, _<_, _≤_}
 use native.Mathlib.Omega.{arith}
@@ -12,12 +12,14 @@ use Rattle.bits.specs.Bit.{bit}
 use Rattle.bits.proofs.Ranges.{and-l, and-r, and-i, by-cases, length-places, places-at, places-ext}
 use Rattle.bits.proofs.Logic.{clash, and-not, differs-e}
 use Rattle.network.specs.declared.Session.{Session}
+use Rattle.network.specs.declared.Refusal.the-variants.{NotAGate, TableTooWide, ClosedEntry}
 use Rattle.network.specs.declared.Answer.{Answer}
 use Rattle.network.specs.declared.Answer.the-variants.{Done, Refused}
 use Rattle.network.specs.Bounds.{mostGates}
 use Rattle.network.specs.Net.{Gate, Net, isGate, gate, entries, patterns, excludedFor, output, Replacement, withTable}
 use Rattle.network.specs.Compatible.{closed}
 use Rattle.network.specs.Flat.{gateAt, netOf, netWith, loadedNet, currentNet}
+use Rattle.network.specs.Refusals.{said}
 use Rattle.network.specs.State.{stateFault}
 use Rattle.network.specs.Calls.{fits, alters, withCurrent}
 use Rattle.network.specs.Sessions.{after, answerBy, took, lastAccepted, finalTables, AltersClosed, Exact, Demand3, Demand3Of, Rule4Of}
@@ -30,6 +32,11 @@ use Rattle.network.proofs.Lone.{OutputsLoaded, lone-session}
 use Rattle.network.proofs.Reached.{loaded-fresh}
 
 -- ## Each answer has exactly its cause
+
+-- the answer of an exchange, from what is said of it
+abbrev answerSaid : List ℕ → Answer
+answerSaid [] = Done
+answerSaid (n ∷ vs) = cond (eqb n 11) (Refused NotAGate) (cond (eqb n 12) (Refused TableTooWide) (Refused (ClosedEntry (getD vs 0 0))))
 
 module _ (N : Net) (r : Replacement) where
   abbrev altered : ℕ → Bool
@@ -45,10 +52,16 @@ module _ (N : Net) (r : Replacement) where
   not-alters : (t : ℕ) → t < entries N (r .signal) → (AltersClosed N r t → ⊥) → altered t ≡ false
   not-alters t l f = and-not (closed N (r .signal) t) (alters N r t) (λ c a. f (l, c, a))
 
-  cause : {a : Answer} → answerBy N r ≡ a → Cause N r a
-  cause e = subst (Cause N r) e (answer-because N r)
+  back : {a : Answer} → Cause N r a → answerSaid (said a) ≡ a
+  back (no-gate p) = refl
+  back (too-wide p q) = refl
+  back (closes t p q k) = refl
+  back (accepts p q k) = refl
 
-  closed-cause : (a : Answer) → Cause N r a → isGate N (r .signal) ≡ true → fits N r ≡ true → (a ≡ Done → ⊥) → (t : ℕ) × AltersClosed N r t
+  cause : {l : List ℕ} → said (answerBy N r) ≡ l → Cause N r (answerSaid l)
+  cause e = subst (Cause N r) (sym (back (answer-because N r)) ∙ ap answerSaid e) (answer-because N r)
+
+  closed-cause : (a : Answer) → Cause N r a → isGate N (r .signal) ≡ true → fits N r ≡ true → (said a ≡ [] → ⊥) → (t : ℕ) × AltersClosed N r t
   closed-cause _ (no-gate p) w f n = clash w p
   closed-cause _ (too-wide p q) w f n = clash f q
   closed-cause _ (closes t p q k) w f n = (t, alters-i t (k .0) (k .1))
@@ -56,18 +69,18 @@ module _ (N : Net) (r : Replacement) where
 
   pub exact : Exact N r
   exact = record {
-    noGate = (λ e. no-gate-e (cause e), λ w. answer-only-because N r (no-gate w));
-    tooWide = (λ e. too-wide-e (cause e), λ w. answer-only-because N r (too-wide (w .0) (w .1)));
+    noGate = (λ e. no-gate-e (cause e), λ w. ap said (answer-only-because N r (no-gate w)));
+    tooWide = (λ e. too-wide-e (cause e), λ w. ap said (answer-only-because N r (too-wide (w .0) (w .1))));
     closes = λ t. (
       λ e. let c = closes-e (cause e) in
           (c .0, c .1, alters-i t (c .2 .0) (c .2 .1), λ u l. alters-not u (c .2 .2 u l)),
-      λ w. answer-only-because N r
-          (closes t (w .0) (w .1) (w .2 .0, and-i _ _ (w .2 .1) (w .2 .2), λ u l. not-alters u (omega (arith, w .2 .0)) (w .3 u l))),
+      λ w. ap said (answer-only-because N r
+          (closes t (w .0) (w .1) (w .2 .0, and-i _ _ (w .2 .1) (w .2 .2), λ u l. not-alters u (omega (arith, w .2 .0)) (w .3 u l)))),
     );
     accepts = (
       λ e. let c = accepts-e (cause e) in
           (c .0, c .1, λ t a. alters-not t (c .2 t (a .0)) a),
-      λ w. answer-only-because N r (accepts (w .0) (w .1) (λ t l. not-alters t l (w .2 t))),
+      λ w. ap said (answer-only-because N r (accepts (w .0) (w .1) (λ t l. not-alters t l (w .2 t)))),
     );
     refuses = λ w f. (
       closed-cause (answerBy N r) (answer-because N r) w f,
@@ -78,7 +91,7 @@ module _ (N : Net) (r : Replacement) where
 -- ## The gates after a list of exchanges
 
 -- a table has the loaded bit at each closed entry of gate k
-abbrev KeepsClosed : Net → ℕ → ℕ → Type 0
+abbrev pub KeepsClosed : Net → ℕ → ℕ → Type 0
 KeepsClosed N k table = (t : ℕ) → t < entries N k → closed N k t ≡ true → bit table t ≡ bit (gate N k .table) t
 
 took-keeps : (N : Net) (r : Replacement) (k table : ℕ) (a : Answer) → Cause N r a → KeepsClosed N k table → KeepsClosed N k (took a r k table)
@@ -89,7 +102,7 @@ took-keeps N r k table Done w keeps = by-cases (eqb (r .signal) k) (λ e. rw e (
     new e = subst (λ (k : ℕ). KeepsClosed N k (r .table)) e (λ t l c. sym (differs-e _ _ (rw c at (accepts-e w .2 t l))))
 took-keeps N r k table (Refused f) w keeps = keeps
 
-last-keeps : (N : Net) (rs : List Replacement) (k table : ℕ) → KeepsClosed N k table → KeepsClosed N k (lastAccepted N rs k table)
+pub last-keeps : (N : Net) (rs : List Replacement) (k table : ℕ) → KeepsClosed N k table → KeepsClosed N k (lastAccepted N rs k table)
 last-keeps N [] k table keeps = keeps
 last-keeps N (r ∷ rs) k table keeps = last-keeps N rs k (took (answerBy N r) r k table) (took-keeps N r k table (answerBy N r) (answer-because N r) keeps)
 
@@ -110,7 +123,7 @@ module _ (s : Session) (rs : List Replacement) (ts : List ℕ)
   kept k a b =
       rw (gate-last k a b) (record { wires = refl; bits = last-keeps (loadedNet s) rs k (gate (loadedNet s) k .table) (λ t _ _. refl) })
 
-  outputs-stay : stateFault s ≡ Done → (x i : ℕ) → x < patterns (loadedNet s) → i < s .p → excludedFor (loadedNet s) i x ≡ false
+  pub outputs-stay : stateFault s ≡ Done → (x i : ℕ) → x < patterns (loadedNet s) → i < s .p → excludedFor (loadedNet s) i x ≡ false
       → output (netWith s ts) x i ≡ output (loadedNet s) x i
   unfolding loadedNet netOf
   outputs-stay valid x i hx hi n =
@@ -125,7 +138,7 @@ took-swap Done Done q r ne k t =
 took-swap Done (Refused f) q r ne k t = refl
 took-swap (Refused f) b q r ne k t = refl
 
-last-append : (N : Net) (qs rs : List Replacement) (k t : ℕ) → lastAccepted N (qs ++ rs) k t ≡ lastAccepted N rs k (lastAccepted N qs k t)
+pub last-append : (N : Net) (qs rs : List Replacement) (k t : ℕ) → lastAccepted N (qs ++ rs) k t ≡ lastAccepted N rs k (lastAccepted N qs k t)
 last-append N [] rs k t = refl
 last-append N (q ∷ qs) rs k t = last-append N qs rs k (took (answerBy N q) q k t)
 
@@ -139,12 +152,16 @@ last-swap N before behind a b ne k t =
 -- ## Demand 3
 
 module _ (s : Session) (fresh : Fresh s) where
-  final-at : (rs : List Replacement) (g : ℕ) → g < s .m → getD (finalTables s rs) g 0 ≡ lastAccepted (loadedNet s) rs (s .n + g) (getD (s .loaded) g 0)
+  pub final-at : (rs : List Replacement) (g : ℕ) → g < s .m → getD (finalTables s rs) g 0 ≡ lastAccepted (loadedNet s) rs (s .n + g) (getD (s .loaded) g 0)
   final-at rs g h = places-at 0 mostGates (λ g. lastAccepted (loadedNet s) rs (s .n + g) (getD (s .loaded) g 0)) g (omega (arith, gates-most s fresh))
 
-  current-is : (rs : List Replacement) → currentNet (after s rs) ≡ netWith s (finalTables s rs)
+  pub current-is : (rs : List Replacement) → currentNet (after s rs) ≡ netWith s (finalTables s rs)
   unfolding currentNet
   current-is rs = ap currentNet (after-is s fresh rs)
+
+  pub outputs-loaded : (rs : List Replacement) → OutputsLoaded (after s rs)
+  unfolding loadedNet currentNet
+  outputs-loaded rs = subst OutputsLoaded (sym (after-is s fresh rs)) (outputs-stay s rs (finalTables s rs) (final-at rs) (fresh .valid))
 
   swapped : (before behind : List Replacement) (a b : Replacement) → a .signal ≢ b .signal → after s (before ++ b ∷ a ∷ behind) ≡ after s (before ++ a ∷ b ∷ behind)
   swapped before behind a b ne =
@@ -173,8 +190,4 @@ demand3-of bytes s rs loads = demand3 s (loaded-fresh bytes s loads) rs
 
 -- rule 4's second sentence, in every session that a load and exchanges give
 pub rule4-of : Rule4Of
-unfolding loadedNet currentNet
-rule4-of bytes s rs r loads =
-    let fresh = loaded-fresh bytes s loads in
-    let same = outputs-stay s rs (finalTables s rs) (final-at s fresh rs) (fresh .valid) in
-    lone-session (after s rs) (after-valid s fresh rs) (subst OutputsLoaded (sym (after-is s fresh rs)) same) r
+rule4-of bytes s rs r loads = let fresh = loaded-fresh bytes s loads in lone-session (after s rs) (after-valid s fresh rs) (outputs-loaded s fresh rs) r

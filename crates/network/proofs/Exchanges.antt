@@ -218,7 +218,7 @@ module _ (s : Session) (fresh : Fresh s) where
       width g l (no n) = rw (getD-set-other ts (r .signal - s .n) g (r .table) 0 n) (v .gate g l .current-fine)
 
 -- one table stored, place by place
-set-at : (n k t : ℕ) (ts : List ℕ) → n ≤ k → k - n < length ts → (g : ℕ) → getD (set ts (k - n) t) g 0 ≡ cond (eqb k (n + g)) t (getD ts g 0)
+pub set-at : (n k t : ℕ) (ts : List ℕ) → n ≤ k → k - n < length ts → (g : ℕ) → getD (set ts (k - n) t) g 0 ≡ cond (eqb k (n + g)) t (getD ts g 0)
 set-at n k t ts a h g = go (ℕ-discrete g (k - n))
   where
     go : Dec (g ≡ k - n) → getD (set ts (k - n) t) g 0 ≡ cond (eqb k (n + g)) t (getD ts g 0)

@@ -1,7 +1,8 @@
 -- What the test for harm, refusal 14, finds: nothing exactly where no pattern harms an output, else the smallest pattern that harms
 -- one and, there, the lowest output. Assumes nothing.
-use mathlib.Core.Path.{_≡_, refl, sym}
+use mathlib.Core.Path.{_≡_, refl, sym, ap, _∙_}
 use mathlib.Core.Logic.{_⊎_, inl, inr, ⊎-elim, _↔_}
+use mathlib.Core.List.{[], _∷_}
 use Prim.Native.Nat.{ℕ, zero, suc, _+_, _<_}
 use native.Mathlib.Nat.{not-suc-le-zero}
 use native.Mathlib.Decide.{decLt}
@@ -18,9 +19,11 @@ use Rattle.network.specs.declared.Answer.{Answer}
 use Rattle.network.specs.declared.Answer.the-variants.{Done, Refused}
 use Rattle.network.specs.Net.{Net, patterns, patternOrder}
 use Rattle.network.specs.DontCares.{harms}
+use Rattle.network.specs.Refusals.{said}
 use Rattle.network.specs.Tests.{orElse}
 use Rattle.network.specs.Calls.{outputFound, harmIn, harmTest}
 use Rattle.network.specs.Sessions.{NoHarm, FirstHarm}
+use Rattle.network.proofs.Said.{said-done}
 
 module _ (L M : Net) where
   -- what the search can come to
@@ -69,10 +72,16 @@ module _ (L M : Net) where
     λ none. ⊎-elim (λ n. n .0) (λ f. clash (f .3 .harm) (none (f .0) (f .1) (f .3 .pattern) (f .3 .output))) harm-is,
   )
 
-  pub harm-at : (x i : ℕ) → (harmTest L M ≡ Refused (Harm x i)) ↔ FirstHarm L M x i
+  pub harm-none : (said (harmTest L M) ≡ []) ↔ NoHarm L M (patterns L)
+  harm-none = let d = said-done (harmTest L M) in (λ e. harm-done .0 (d .0 e), λ none. d .1 (harm-done .1 none))
+
+  pub harm-at : (x i : ℕ) → (said (harmTest L M) ≡ 14 ∷ x ∷ i ∷ []) ↔ FirstHarm L M x i
   harm-at x i = (
-    λ e. ⊎-elim (λ n. let z : _≡_ {A = ℕ} 0 1 = cc (n .0) in absurd (omega arith))
-        (λ f. let p : f .0 ≡ x = cc (f .2) in let q : f .1 ≡ i = cc (f .2) in rw (sym p, sym q) (f .3)) harm-is,
+    λ e. ⊎-elim (λ n. absurd (omega (arith, ap length (sym e ∙ ap said (n .0)))))
+        (λ f. let s = sym (ap said (f .2)) ∙ e in
+        let p : f .0 ≡ x = cc s in
+        let q : f .1 ≡ i = cc s in
+        rw (sym p, sym q) (f .3)) harm-is,
     λ h. ⊎-elim (λ n. clash (h .harm) (n .1 x i (h .pattern) (h .output)))
-        (λ f. let o = harm-one (f .3) h in rw (sym (o .0), sym (o .1)) (f .2)) harm-is,
+        (λ f. let o = harm-one (f .3) h in rw (sym (o .0), sym (o .1)) (ap said (f .2))) harm-is,
   )

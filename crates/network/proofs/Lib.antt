@@ -4,6 +4,7 @@ pub mod Fresh
 pub mod Valid
 pub mod Earlier
 pub mod TestLaws
+pub mod Said
 pub mod Cases
 pub mod Harm
 pub mod Lone
@@ -12,3 +13,4 @@ pub mod Reached
 pub mod Safe
 pub mod Exchanges
 pub mod Demand3
+pub mod Inside

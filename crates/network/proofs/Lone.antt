@@ -26,6 +26,7 @@ use Rattle.network.proofs.TestLaws.{alone}
 use Rattle.network.proofs.FlatGates.{arity-at, length-gates}
 use Rattle.network.proofs.Valid.{state-i, net-ok}
 use Rattle.network.proofs.Earlier.{Earlier, earlier-net, gates-at, gate-bounds, entry-below, entry-keep}
+use Rattle.network.proofs.Said.{said-done}
 use Rattle.network.proofs.Harm.{harm-done}
 
 -- ## Values with one table replaced
@@ -169,7 +170,7 @@ module _ (s : Session) where
         short i h = omega (arith, length-places (s .p) (λ i. getD (s .outputs) i 0))
 
     module _ (r : Replacement) where
-      verdict-is : isGate (loadedNet s) (r .signal) ≡ true → fits (loadedNet s) r ≡ true
+      pub verdict-is : isGate (loadedNet s) (r .signal) ≡ true → fits (loadedNet s) r ≡ true
           → verdictOf s r ≡ harmTest (loadedNet s) (replaced (currentNet s) (r ∷ []))
       unfolding verdictOf gateTest tableTest
       verdict-is w k = rw (state-i s valid, w, k) (sym (alone (harmTest (loadedNet s) (replaceOne (currentNet s) r))))
@@ -182,7 +183,8 @@ module _ (s : Session) where
       lone-session w k =
           let l = lone (currentNet s) early r (loaded-gate (r .signal) ∙ w) in
           let j = judged (replaceOne (currentNet s) r) in
-          let q = loaded-arity (r .signal) w in (
-            λ e t h. l .0 (j .0 (sym (verdict-is w k) ∙ e)) t (rw q at h),
-            λ f. verdict-is w k ∙ j .1 (l .1 (λ t h. f t (rw q h))),
+          let q = loaded-arity (r .signal) w in
+          let d = said-done (verdictOf s r) in (
+            λ e t h. l .0 (j .0 (sym (verdict-is w k) ∙ d .0 e)) t (rw q at h),
+            λ f. d .1 (verdict-is w k ∙ j .1 (l .1 (λ t h. f t (rw q h)))),
           )

@@ -1,79 +1,23 @@
 -- Cases of the definitions, each computed and held against what is stated: 01's (m) cases, document 004's
--- examples, more than 64 patterns, refused calls, damaged files. A case is a pair: what the definitions give, and what is stated.
+-- examples, more than 64 patterns, more than one output, refused calls, damaged files. A case is a pair: what the definitions give, and what is stated.
 -- Assumes nothing.
 use mathlib.Core.Bool.{Bool}
 use mathlib.Core.List.{List, [], _∷_, _++_}
-use Prim.Native.Nat.{ℕ, _*_}
+use Prim.Native.Nat.{ℕ}
 use lib.ListN.{take, drop, set, replicate}
-use lib.Seq.{sets}
-use Rattle.bits.specs.Bounds.{mostInputs, rowWords, gatePlaces}
+use Rattle.bits.specs.Bounds.{mostInputs, rowWords}
 use Rattle.bits.specs.Bit.{tableOf}
 use Rattle.network.specs.declared.Session.{Session}
 use Rattle.network.specs.Bounds.{mostGates, mostOutputs, mostFanins, mostEntries, mostSignals, faninPlaces, signalWords, gateWords, excludedWords, mostSetBytes, mostGateBytes, mostFileBytes}
 use Rattle.network.specs.Net.{Net, gate, patterns, Replacement, replaced}
 use Rattle.network.specs.DontCares.{sdc, cdc, odc, full}
 use Rattle.network.specs.Compatible.{freeFanins, compatible, compatibleCount, openTable}
-use Rattle.network.specs.Flat.{loadedNet}
-use Rattle.network.specs.Refusals.{said}
+use Rattle.network.specs.Refusals.{said, saidTables, saidWrite}
 use Rattle.network.specs.Load.{readOf, loadOf}
 use Rattle.network.specs.Write.{bytesOf}
-use Rattle.network.specs.Calls.{exchangeOf, verdictOf, harmTest}
+use Rattle.network.specs.Calls.{exchangeOf, verdictOf, harmTest, tablesOf, writeOf, writeAnswer}
 use Rattle.network.specs.Sessions.{after}
-use Rattle.network.specs.Examples.{twin, freeing, tourFirst, tourSecond, tour, sumOfProducts, controlThree, controlFour, observe, segment}
-
--- ## Files and sessions
-
-abbrev pub twinBytes : List ℕ
-twinBytes =
-    0x4E ∷ 0x49 ∷ 0x01 ∷ 0x03 ∷ 0x01
-    ∷ 0x4E ∷ 0x47 ∷ 0x01 ∷ 0x00 ∷ 0x02 ∷ 0x00
-    ∷ 0x4E ∷ 0x47 ∷ 0x01 ∷ 0x00 ∷ 0x02 ∷ 0x00
-    ∷ 0x4E ∷ 0x47 ∷ 0x02 ∷ 0x01 ∷ 0x02 ∷ 0x0E ∷ 0x00
-    ∷ 0x4E ∷ 0x4F ∷ 0x03 ∷ []
-
--- the session with these counts, excluded words, arities, fan-ins, tables, open tables and outputs
-abbrev pub held : ℕ → ℕ → ℕ → List ℕ → List ℕ → List ℕ → List ℕ → List ℕ → List ℕ → Session
-held n m p exs ks fs ts os outs = record {
-  n = n;
-  m = m;
-  p = p;
-  excluded = sets (replicate excludedWords 0) 0 exs;
-  arity = sets (replicate mostGates 0) 0 ks;
-  fanins = sets (replicate faninPlaces 0) 0 fs;
-  loaded = sets (replicate mostGates 0) 0 ts;
-  current = sets (replicate mostGates 0) 0 ts;
-  open_tables = sets (replicate mostGates 0) 0 os;
-  outputs = sets (replicate mostOutputs 0) 0 outs;
-}
-
-abbrev pub twinSession : Session
-twinSession = held 1 3 1 [] (1 ∷ 1 ∷ 2 ∷ []) (replicate (gatePlaces * 2) 0 ++ 1 ∷ 2 ∷ []) (0x2 ∷ 0x2 ∷ 0xE ∷ []) (0x2 ∷ 0x0 ∷ 0x2 ∷ []) (3 ∷ [])
-
--- gate 1 is 0 whatever the input, gate 2 its inverse and the output; pattern 0 is excluded
-abbrev pub chainBytes : List ℕ
-chainBytes =
-    0x4E ∷ 0x49 ∷ 0x01 ∷ 0x02 ∷ 0x01
-    ∷ 0x4E ∷ 0x58 ∷ 0x01
-    ∷ 0x4E ∷ 0x47 ∷ 0x01 ∷ 0x00 ∷ 0x00 ∷ 0x00
-    ∷ 0x4E ∷ 0x47 ∷ 0x01 ∷ 0x01 ∷ 0x01 ∷ 0x00
-    ∷ 0x4E ∷ 0x4F ∷ 0x02 ∷ []
-
-abbrev pub chainSession : Session
-chainSession = held 1 2 1 (1 ∷ []) (1 ∷ 1 ∷ []) (replicate gatePlaces 0 ++ 1 ∷ []) (0x0 ∷ 0x1 ∷ []) (0x1 ∷ 0x2 ∷ []) (2 ∷ [])
-
--- gate 7 is the AND of inputs 5 and 6; the patterns 96 to 127, at which it is 1, are excluded, and some of the others
-abbrev pub wideBytes : List ℕ
-wideBytes =
-    0x4E ∷ 0x49 ∷ 0x07 ∷ 0x01 ∷ 0x01
-    ∷ 0x4E ∷ 0x58 ∷ 0x01 ∷ 0x02 ∷ 0x04 ∷ 0x08 ∷ 0x10 ∷ 0x20 ∷ 0x40 ∷ 0x80 ∷ 0x01 ∷ 0x02 ∷ 0x04 ∷ 0x08 ∷ 0xFF ∷ 0xFF ∷ 0xFF ∷ 0xFF
-    ∷ 0x4E ∷ 0x47 ∷ 0x02 ∷ 0x05 ∷ 0x06 ∷ 0x08 ∷ 0x00
-    ∷ 0x4E ∷ 0x4F ∷ 0x07 ∷ []
-
-abbrev pub wideSession : Session
-wideSession = held 7 1 1 (0x8040201008040201 ∷ 0xFFFFFFFF08040201 ∷ []) (2 ∷ []) (5 ∷ 6 ∷ []) (0x8 ∷ []) (0x8 ∷ []) (7 ∷ [])
-
-abbrev pub wideNet : Net
-wideNet = loadedNet wideSession
+use Rattle.network.specs.Examples.{twinBytes, twinSession, twinNet, chainBytes, chainSession, wideBytes, wideSession, wideNet, portsBytes, portsSession, portsNet, freeing, tourFirst, tourSecond, tour, sumOfProducts, controlThree, controlFour, observe, segment}
 
 -- ## Words for the cases
 
@@ -106,14 +50,14 @@ marked =
     (said (loadOf twinBytes .answer) ++ numbers (loadOf twinBytes .session), numbers twinSession)
     ∷ (bytesOf twinSession, twinBytes)
     -- ODC of gates 1 and 2 is {1}; of gate 3 empty
-    ∷ (setOf twin (odc twin 1) ∷ setOf twin (odc twin 2) ∷ setOf twin (odc twin 3) ∷ [], 0b10 ∷ 0b10 ∷ 0 ∷ [])
+    ∷ (setOf twinNet (odc twinNet 1) ∷ setOf twinNet (odc twinNet 2) ∷ setOf twinNet (odc twinNet 3) ∷ [], 0b10 ∷ 0b10 ∷ 0 ∷ [])
     -- H of gate 1 is {1}; of gates 2 and 3 empty
-    ∷ (setOf twin (compatible twin 1) ∷ setOf twin (compatible twin 2) ∷ setOf twin (compatible twin 3) ∷ [], 0b10 ∷ 0 ∷ 0 ∷ [])
-    ∷ (compatibleCount twin 1 ∷ compatibleCount twin 2 ∷ compatibleCount twin 3 ∷ [], 1 ∷ 0 ∷ 0 ∷ [])
+    ∷ (setOf twinNet (compatible twinNet 1) ∷ setOf twinNet (compatible twinNet 2) ∷ setOf twinNet (compatible twinNet 3) ∷ [], 0b10 ∷ 0 ∷ 0 ∷ [])
+    ∷ (compatibleCount twinNet 1 ∷ compatibleCount twinNet 2 ∷ compatibleCount twinNet 3 ∷ [], 1 ∷ 0 ∷ 0 ∷ [])
     -- SDC of gate 1 is 06, of gate 3 1E
-    ∷ (sdc twin 1 ∷ sdc twin 3 ∷ [], 0x06 ∷ 0x1E ∷ [])
+    ∷ (sdc twinNet 1 ∷ sdc twinNet 3 ∷ [], 0x06 ∷ 0x1E ∷ [])
     -- the three tables of gate 3: cdc, full, open
-    ∷ (cdc twin 3 ∷ full twin 3 ∷ openTable twin 3 ∷ [], 0x6 ∷ 0x6 ∷ 0x2 ∷ [])
+    ∷ (cdc twinNet 3 ∷ full twinNet 3 ∷ openTable twinNet 3 ∷ [], 0x6 ∷ 0x6 ∷ 0x2 ∷ [])
     -- exchange gate 1 to 0: accepted; gate 2 to 0: 13, entry 1
     ∷ (exchangeSaid twinSession [] (to 1 0), [])
     ∷ (take 3 (after twinSession (to 1 0 ∷ []) .current), 0x0 ∷ 0x2 ∷ 0xE ∷ [])
@@ -124,6 +68,7 @@ marked =
     -- gate 3 to C: accepted, before or after gate 1
     ∷ (exchangeSaid twinSession [] (to 3 0xC), [])
     ∷ (exchangeSaid twinSession (to 1 0 ∷ []) (to 3 0xC), [])
+    ∷ (exchangeSaid twinSession (to 3 0xC ∷ []) (to 1 0), [])
     -- rule 6 frees y1 and y3 of y2·(y1 + y3) at 000
     ∷ (freeFanins (gate freeing 6) 0 ∷ [], 0b101 ∷ [])
     -- document 004's tour: CDC of f 2E, full table 7F
@@ -138,9 +83,9 @@ ofGate N s = sdc N s ∷ cdc N s ∷ full N s ∷ openTable N s ∷ setOf N (odc
 
 abbrev pub worked : List (List ℕ × List ℕ)
 worked =
-    (ofGate twin 1, 0x6 ∷ 0x0 ∷ 0x2 ∷ 0x2 ∷ 0x2 ∷ 0x2 ∷ [])
-    ∷ (ofGate twin 2, 0x6 ∷ 0x0 ∷ 0x2 ∷ 0x0 ∷ 0x2 ∷ 0x0 ∷ [])
-    ∷ (ofGate twin 3, 0x1E ∷ 0x6 ∷ 0x6 ∷ 0x2 ∷ 0x0 ∷ 0x0 ∷ [])
+    (ofGate twinNet 1, 0x6 ∷ 0x0 ∷ 0x2 ∷ 0x2 ∷ 0x2 ∷ 0x2 ∷ [])
+    ∷ (ofGate twinNet 2, 0x6 ∷ 0x0 ∷ 0x2 ∷ 0x0 ∷ 0x2 ∷ 0x0 ∷ [])
+    ∷ (ofGate twinNet 3, 0x1E ∷ 0x6 ∷ 0x6 ∷ 0x2 ∷ 0x0 ∷ 0x0 ∷ [])
     ∷ (ofGate freeing 3, 0x6 ∷ 0x0 ∷ 0x0 ∷ 0x0 ∷ 0xF3 ∷ 0xF3 ∷ [])
     ∷ (ofGate freeing 4, 0x6 ∷ 0x0 ∷ 0x0 ∷ 0x0 ∷ 0x5 ∷ 0x4 ∷ [])
     ∷ (ofGate freeing 5, 0x6 ∷ 0x0 ∷ 0x0 ∷ 0x0 ∷ 0xBB ∷ 0x3B ∷ [])
@@ -185,6 +130,28 @@ wide =
     ∷ (verdictSaid wideSession [] (to 7 0xC), 14 ∷ 65 ∷ 0 ∷ [])
     ∷ []
 
+-- ## More than one output
+
+abbrev pub ports : List (List ℕ × List ℕ)
+ports =
+    -- loaded and written
+    (numbers (loadOf portsBytes .session), numbers portsSession)
+    ∷ (bytesOf portsSession, portsBytes)
+    -- with neither output nor gate behind it, the ODC and H of gate 5 are all patterns
+    ∷ (ofGate portsNet 2, 0x06 ∷ 0x0 ∷ 0x2 ∷ 0x2 ∷ 0b1010 ∷ 0b1110 ∷ [])
+    ∷ (ofGate portsNet 3, 0x06 ∷ 0x0 ∷ 0x0 ∷ 0x0 ∷ 0 ∷ 0b0100 ∷ [])
+    ∷ (ofGate portsNet 4, 0x1E ∷ 0x6 ∷ 0x6 ∷ 0x2 ∷ 0 ∷ 0b0100 ∷ [])
+    ∷ (ofGate portsNet 5, 0x09 ∷ 0x0 ∷ 0x3 ∷ 0x3 ∷ 0b1111 ∷ 0b1111 ∷ [])
+    -- of the outputs that are harmed, the lowest is named
+    ∷ (verdictSaid portsSession [] (to 3 0), 14 ∷ 1 ∷ 3 ∷ [])
+    ∷ (verdictSaid portsSession [] (to 4 0), 14 ∷ 1 ∷ 1 ∷ [])
+    ∷ (verdictSaid portsSession [] (to 2 0), [])
+    ∷ (verdictSaid portsSession [] (to 5 2), [])
+    ∷ (exchangeSaid portsSession [] (to 3 0), 13 ∷ 1 ∷ [])
+    ∷ (exchangeSaid portsSession [] (to 2 0), [])
+    ∷ (exchangeSaid portsSession [] (to 5 2), [])
+    ∷ []
+
 -- ## The bounds, and the sizes that follow from them
 
 abbrev pub sizes : List (List ℕ × List ℕ)
@@ -202,6 +169,9 @@ refused =
     -- 11, 12, and 10 for the session of a refused load
     (exchangeSaid twinSession [] (to 0 0) ++ exchangeSaid twinSession [] (to 4 0) ++ exchangeSaid twinSession [] (to 1 4) ++ verdictSaid twinSession [] (to 3 16), 11 ∷ 11 ∷ 12 ∷ 12 ∷ [])
     ∷ (exchangeSaid (loadOf [] .session) [] (to 0 0), 10 ∷ [])
+    -- 11, 10 and nothing for the tables of a gate; 9 and nothing for a file's bytes
+    ∷ (saidTables (tablesOf twinSession 0) ++ saidTables (tablesOf (loadOf [] .session) 1) ++ saidTables (tablesOf twinSession 1), 11 ∷ 10 ∷ [])
+    ∷ (saidWrite (writeAnswer (writeOf twinSession (replicate 26 0) .answer) 27) ++ saidWrite (writeAnswer (writeOf twinSession (replicate 27 0) .answer) 27), 9 ∷ [])
     -- the compatible sets stay those of the loaded network: gate 1 to 2 alters a closed entry, also after an exchange at gate 2
     ∷ (numbers (loadOf chainBytes .session), numbers chainSession)
     ∷ (exchangeSaid chainSession [] (to 1 2), 13 ∷ 1 ∷ [])

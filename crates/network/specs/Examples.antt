@@ -1,7 +1,13 @@
--- Networks whose sets are computed as cases: 01's and document 004's. Assumes nothing.
-use mathlib.Core.List.{List, [], _∷_}
-use Prim.Native.Nat.{ℕ}
+-- Networks whose sets are computed as cases: 01's and document 004's, some as a file's bytes and the session that they load. Assumes nothing.
+use mathlib.Core.List.{List, [], _∷_, _++_}
+use Prim.Native.Nat.{ℕ, _*_}
+use lib.ListN.{replicate}
+use lib.Seq.{sets}
+use Rattle.bits.specs.Bounds.{gatePlaces}
+use Rattle.network.specs.declared.Session.{Session}
+use Rattle.network.specs.Bounds.{mostGates, mostOutputs, faninPlaces, excludedWords}
 use Rattle.network.specs.Net.{Gate, Net}
+use Rattle.network.specs.Flat.{loadedNet}
 
 abbrev pub g : List ℕ → ℕ → Gate
 g fs t = record { fanins = fs; table = t }
@@ -9,10 +15,6 @@ g fs t = record { fanins = fs; table = t }
 -- n inputs, one word of excluded patterns, the gates, the outputs
 abbrev pub net : ℕ → ℕ → List Gate → List ℕ → Net
 net n ex gs outs = record { inputs = n; excluded = ex ∷ []; gates = gs; outputs = outs }
-
--- 01's twin network
-abbrev pub twin : Net
-twin = net 1 0 (g (0 ∷ []) 0x2 ∷ g (0 ∷ []) 0x2 ∷ g (1 ∷ 2 ∷ []) 0xE ∷ []) (3 ∷ [])
 
 -- 01's case of rule 6: y2·(y1 + y3) over three copied inputs
 abbrev pub freeing : Net
@@ -49,3 +51,80 @@ observe = net 3 0 (g (0 ∷ 1 ∷ []) 0x6 ∷ g (0 ∷ 1 ∷ 3 ∷ 2 ∷ []) 0xB
 -- BCD segment a, the patterns 10 to 15 excluded
 abbrev pub segment : Net
 segment = net 4 0xFC00 (g (0 ∷ 1 ∷ 2 ∷ 3 ∷ []) 0x3ED ∷ []) (4 ∷ [])
+
+-- ## Files and sessions
+
+abbrev pub twinBytes : List ℕ
+twinBytes =
+    0x4E ∷ 0x49 ∷ 0x01 ∷ 0x03 ∷ 0x01
+    ∷ 0x4E ∷ 0x47 ∷ 0x01 ∷ 0x00 ∷ 0x02 ∷ 0x00
+    ∷ 0x4E ∷ 0x47 ∷ 0x01 ∷ 0x00 ∷ 0x02 ∷ 0x00
+    ∷ 0x4E ∷ 0x47 ∷ 0x02 ∷ 0x01 ∷ 0x02 ∷ 0x0E ∷ 0x00
+    ∷ 0x4E ∷ 0x4F ∷ 0x03 ∷ []
+
+-- the session with these counts, excluded words, arities, fan-ins, tables, open tables and outputs
+abbrev pub held : ℕ → ℕ → ℕ → List ℕ → List ℕ → List ℕ → List ℕ → List ℕ → List ℕ → Session
+held n m p exs ks fs ts os outs = record {
+  n = n;
+  m = m;
+  p = p;
+  excluded = sets (replicate excludedWords 0) 0 exs;
+  arity = sets (replicate mostGates 0) 0 ks;
+  fanins = sets (replicate faninPlaces 0) 0 fs;
+  loaded = sets (replicate mostGates 0) 0 ts;
+  current = sets (replicate mostGates 0) 0 ts;
+  open_tables = sets (replicate mostGates 0) 0 os;
+  outputs = sets (replicate mostOutputs 0) 0 outs;
+}
+
+abbrev pub twinSession : Session
+twinSession = held 1 3 1 [] (1 ∷ 1 ∷ 2 ∷ []) (replicate (gatePlaces * 2) 0 ++ 1 ∷ 2 ∷ []) (0x2 ∷ 0x2 ∷ 0xE ∷ []) (0x2 ∷ 0x0 ∷ 0x2 ∷ []) (3 ∷ [])
+
+abbrev pub twinNet : Net
+twinNet = loadedNet twinSession
+
+-- gate 1 is 0 whatever the input, gate 2 its inverse and the output; pattern 0 is excluded
+abbrev pub chainBytes : List ℕ
+chainBytes =
+    0x4E ∷ 0x49 ∷ 0x01 ∷ 0x02 ∷ 0x01
+    ∷ 0x4E ∷ 0x58 ∷ 0x01
+    ∷ 0x4E ∷ 0x47 ∷ 0x01 ∷ 0x00 ∷ 0x00 ∷ 0x00
+    ∷ 0x4E ∷ 0x47 ∷ 0x01 ∷ 0x01 ∷ 0x01 ∷ 0x00
+    ∷ 0x4E ∷ 0x4F ∷ 0x02 ∷ []
+
+abbrev pub chainSession : Session
+chainSession = held 1 2 1 (1 ∷ []) (1 ∷ 1 ∷ []) (replicate gatePlaces 0 ++ 1 ∷ []) (0x0 ∷ 0x1 ∷ []) (0x1 ∷ 0x2 ∷ []) (2 ∷ [])
+
+-- gate 7 is the AND of inputs 5 and 6; the patterns 96 to 127, at which it is 1, are excluded, and some of the others
+abbrev pub wideBytes : List ℕ
+wideBytes =
+    0x4E ∷ 0x49 ∷ 0x07 ∷ 0x01 ∷ 0x01
+    ∷ 0x4E ∷ 0x58 ∷ 0x01 ∷ 0x02 ∷ 0x04 ∷ 0x08 ∷ 0x10 ∷ 0x20 ∷ 0x40 ∷ 0x80 ∷ 0x01 ∷ 0x02 ∷ 0x04 ∷ 0x08 ∷ 0xFF ∷ 0xFF ∷ 0xFF ∷ 0xFF
+    ∷ 0x4E ∷ 0x47 ∷ 0x02 ∷ 0x05 ∷ 0x06 ∷ 0x08 ∷ 0x00
+    ∷ 0x4E ∷ 0x4F ∷ 0x07 ∷ []
+
+abbrev pub wideSession : Session
+wideSession = held 7 1 1 (0x8040201008040201 ∷ 0xFFFFFFFF08040201 ∷ []) (2 ∷ []) (5 ∷ 6 ∷ []) (0x8 ∷ []) (0x8 ∷ []) (7 ∷ [])
+
+abbrev pub wideNet : Net
+wideNet = loadedNet wideSession
+
+-- several outputs: one is an input, one is named twice, one feeds a gate too; gate 5 feeds nothing. Gates 2 and 3 copy input 0,
+-- gate 4 is their OR, gate 5 inverts input 1; pattern 2 is excluded
+abbrev pub portsBytes : List ℕ
+portsBytes =
+    0x4E ∷ 0x49 ∷ 0x02 ∷ 0x04 ∷ 0x04
+    ∷ 0x4E ∷ 0x58 ∷ 0x04
+    ∷ 0x4E ∷ 0x47 ∷ 0x01 ∷ 0x00 ∷ 0x02 ∷ 0x00
+    ∷ 0x4E ∷ 0x47 ∷ 0x01 ∷ 0x00 ∷ 0x02 ∷ 0x00
+    ∷ 0x4E ∷ 0x47 ∷ 0x02 ∷ 0x02 ∷ 0x03 ∷ 0x0E ∷ 0x00
+    ∷ 0x4E ∷ 0x47 ∷ 0x01 ∷ 0x01 ∷ 0x01 ∷ 0x00
+    ∷ 0x4E ∷ 0x4F ∷ 0x00 ∷ 0x4E ∷ 0x4F ∷ 0x04 ∷ 0x4E ∷ 0x4F ∷ 0x04 ∷ 0x4E ∷ 0x4F ∷ 0x03 ∷ []
+
+abbrev pub portsSession : Session
+portsSession =
+    held 2 4 4 (4 ∷ []) (1 ∷ 1 ∷ 2 ∷ 1 ∷ []) (replicate (gatePlaces * 2) 0 ++ 2 ∷ 3 ∷ 0 ∷ 0 ∷ 0 ∷ 0 ∷ 1 ∷ []) (0x2 ∷ 0x2 ∷ 0xE ∷ 0x1 ∷ [])
+    (0x2 ∷ 0x0 ∷ 0x2 ∷ 0x3 ∷ []) (0 ∷ 4 ∷ 4 ∷ 3 ∷ [])
+
+abbrev pub portsNet : Net
+portsNet = loadedNet portsSession

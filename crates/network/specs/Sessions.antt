@@ -9,14 +9,14 @@ use lib.ListN.{length, getD}
 use Rattle.bits.specs.Range.{places}
 use Rattle.bits.specs.Bit.{bit}
 use Rattle.network.specs.declared.Session.{Session}
-use Rattle.network.specs.declared.Refusal.the-variants.{NotAGate, TableTooWide, ClosedEntry}
 use Rattle.network.specs.declared.Answer.{Answer}
 use Rattle.network.specs.declared.Answer.the-variants.{Done, Refused}
 use Rattle.network.specs.Bounds.{mostGates}
 use Rattle.network.specs.Net.{Net, isGate, gate, entries, patterns, excludedFor, output, Replacement}
 use Rattle.network.specs.DontCares.{full, harms}
-use Rattle.network.specs.Compatible.{closed}
+use Rattle.network.specs.Compatible.{closed, openTable}
 use Rattle.network.specs.Flat.{loadedNet, currentNet}
+use Rattle.network.specs.Refusals.{said}
 use Rattle.network.specs.Tests.{first}
 use Rattle.network.specs.Load.{loadOf, loadDone}
 use Rattle.network.specs.Calls.{fits, alters, exchangeTests, exchangeOf, withCurrent, verdictOf}
@@ -56,17 +56,17 @@ finalTables s rs = places mostGates (λ g. lastAccepted (loadedNet s) rs (s .n +
 abbrev pub AltersClosed : Net → Replacement → ℕ → Type 0
 AltersClosed N r t = (t < entries N (r .signal)) × (closed N (r .signal) t ≡ true) × (alters N r t ≡ true)
 
--- each answer has exactly its cause
+-- each answer, in 01's numbers, has exactly its cause
 pub record Exact (N : Net) (r : Replacement) : Type 0 where
-  pub noGate : (answerBy N r ≡ Refused NotAGate) ↔ (isGate N (r .signal) ≡ false)
-  pub tooWide : (answerBy N r ≡ Refused TableTooWide) ↔ ((isGate N (r .signal) ≡ true) × (fits N r ≡ false))
+  pub noGate : (said (answerBy N r) ≡ 11 ∷ []) ↔ (isGate N (r .signal) ≡ false)
+  pub tooWide : (said (answerBy N r) ≡ 12 ∷ []) ↔ ((isGate N (r .signal) ≡ true) × (fits N r ≡ false))
   -- 13 names the smallest
   pub closes : (t : ℕ)
-      → (answerBy N r ≡ Refused (ClosedEntry t))
+      → (said (answerBy N r) ≡ 13 ∷ t ∷ [])
       ↔ ((isGate N (r .signal) ≡ true) × (fits N r ≡ true) × AltersClosed N r t × ((u : ℕ) → u < t → AltersClosed N r u → ⊥))
-  pub accepts : (answerBy N r ≡ Done) ↔ ((isGate N (r .signal) ≡ true) × (fits N r ≡ true) × ((t : ℕ) → AltersClosed N r t → ⊥))
+  pub accepts : (said (answerBy N r) ≡ []) ↔ ((isGate N (r .signal) ≡ true) × (fits N r ≡ true) × ((t : ℕ) → AltersClosed N r t → ⊥))
   -- an exchange at a gate, with a table that fits, is refused exactly when it alters an entry that is closed
-  pub refuses : isGate N (r .signal) ≡ true → fits N r ≡ true → (answerBy N r ≡ Done → ⊥) ↔ ((t : ℕ) × AltersClosed N r t)
+  pub refuses : isGate N (r .signal) ≡ true → fits N r ≡ true → (said (answerBy N r) ≡ [] → ⊥) ↔ ((t : ℕ) × AltersClosed N r t)
 
 -- ## Demand 3: of the session s, fresh from a load, and every list of exchanges
 
@@ -114,7 +114,23 @@ pub record FirstHarm (L M : Net) (x i : ℕ) : Type 0 where
 abbrev pub LoneHarmless : Session → Replacement → Type 0
 LoneHarmless s r =
     isGate (loadedNet s) (r .signal) ≡ true → fits (loadedNet s) r ≡ true
-    → (verdictOf s r ≡ Done) ↔ ((t : ℕ) → t < entries (loadedNet s) (r .signal) → alters (currentNet s) r t ≡ true → bit (full (currentNet s) (r .signal)) t ≡ true)
+    → (said (verdictOf s r) ≡ []) ↔ ((t : ℕ) → t < entries (loadedNet s) (r .signal) → alters (currentNet s) r t ≡ true → bit (full (currentNet s) (r .signal)) t ≡ true)
 
 abbrev pub Rule4Of : Type 0
 Rule4Of = (bytes : List ℕ) (s : Session) (rs : List Replacement) (r : Replacement) → loadOf bytes ≡ loadDone s → LoneHarmless (after s rs) r
+
+-- ## Open lies inside full, in every session that a load and exchanges give: s is the session of a load, rs are the exchanges
+
+pub record Inside (s : Session) (rs : List Replacement) : Type 0 where
+  -- each open entry of a gate is an entry of its full table
+  pub openInFull : (g t : ℕ) → isGate (loadedNet s) g ≡ true → bit (openTable (loadedNet s) g) t ≡ true → bit (full (currentNet (after s rs)) g) t ≡ true
+  -- rule 4's second sentence, with the loaded table for what is altered
+  pub rule4Loaded : (r : Replacement) → isGate (loadedNet s) (r .signal) ≡ true → fits (loadedNet s) r ≡ true
+      → (said (verdictOf (after s rs) r) ≡ [])
+      ↔ ((t : ℕ) → t < entries (loadedNet s) (r .signal) → alters (loadedNet s) r t ≡ true → bit (full (currentNet (after s rs)) (r .signal)) t ≡ true)
+  -- an exchange that is accepted is harmless
+  pub acceptedHarmless : (r : Replacement) → said (answerBy (loadedNet s) r) ≡ [] → said (verdictOf (after s rs) r) ≡ []
+
+-- of every list of bytes that loads
+abbrev pub InsideOf : Type 0
+InsideOf = (bytes : List ℕ) (s : Session) (rs : List Replacement) → loadOf bytes ≡ loadDone s → Inside s rs

@@ -5,7 +5,7 @@ ghost use Rattle.bits.specs.Bounds.{mostInputs};
 ghost use Rattle.network.specs.Bounds.{mostSetBytes};
 ghost use Rattle.network.specs.Load.{setBytes, loadRefused};
 ghost use Rattle.network.specs.Load as file;
-ghost use Rattle.network.specs.Refusals.{numberOf};
+ghost use Rattle.network.specs.Refusals.{numberOf, Tells};
 use bits::GATE_PLACES;
 use bits::MOST_INPUTS;
 use bits::ROW_WORDS;
@@ -71,6 +71,9 @@ pub enum Refusal {
     ClosedEntry(usize),
     Harm { pattern: usize, output: usize },
 }
+
+// A refusal in numbers: its number, how many values it names, and these from the start.
+pub struct Named(pub u64, pub usize, pub [u64; 2]);
 
 pub enum Answer {
     Done,
@@ -160,27 +163,32 @@ pub fn set_bytes(n: u8) -> usize
     (bits::power(n as u64) / 8) as usize
 }
 
+// A refusal's number, and the values that it names.
+pub fn told(r: Refusal) -> Named
+    ensures { λ t. ⌜ Tells r t ⌝ }
+{
+    match r {
+        Refusal::Truncated => Named(1, 0, [0; 2]),
+        Refusal::UnexpectedMark => Named(2, 0, [0; 2]),
+        Refusal::OutOfBounds => Named(3, 0, [0; 2]),
+        Refusal::FaninNotEarlier => Named(4, 0, [0; 2]),
+        Refusal::FaninRepeated => Named(5, 0, [0; 2]),
+        Refusal::BitPastEnd => Named(6, 0, [0; 2]),
+        Refusal::NotASignal => Named(7, 0, [0; 2]),
+        Refusal::TrailingBytes => Named(8, 0, [0; 2]),
+        Refusal::BufferTooShort => Named(9, 0, [0; 2]),
+        Refusal::InvalidState => Named(10, 0, [0; 2]),
+        Refusal::NotAGate => Named(11, 0, [0; 2]),
+        Refusal::TableTooWide => Named(12, 0, [0; 2]),
+        Refusal::ClosedEntry(t) => Named(13, 1, [t as u64, 0]),
+        Refusal::Harm { pattern, output } => Named(14, 2, [pattern as u64, output as u64]),
+    }
+}
+
 // The refusal's number.
 pub fn number_of(r: Refusal) -> u64
     ensures { λ k. ⌜ (k ≡ numberOf r) × (k ≤ 14) ⌝ }
 {
-    match r {
-        Refusal::Truncated => 1,
-        Refusal::UnexpectedMark => 2,
-        Refusal::OutOfBounds => 3,
-        Refusal::FaninNotEarlier => 4,
-        Refusal::FaninRepeated => 5,
-        Refusal::BitPastEnd => 6,
-        Refusal::NotASignal => 7,
-        Refusal::TrailingBytes => 8,
-        Refusal::BufferTooShort => 9,
-        Refusal::InvalidState => 10,
-        Refusal::NotAGate => 11,
-        Refusal::TableTooWide => 12,
-        Refusal::ClosedEntry(_) => 13,
-        Refusal::Harm {
-            pattern: _,
-            output: _,
-        } => 14,
-    }
+    let t = told(r);
+    t.0
 }

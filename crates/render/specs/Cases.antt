@@ -4,7 +4,7 @@ use mathlib.Core.List.{List, [], _∷_, _++_}
 use Prim.Native.Nat.{ℕ}
 use lib.ListN.{take}
 use Rattle.text.specs.Ascii.{ascii}
-use Rattle.network.specs.Cases.{twinBytes}
+use Rattle.network.specs.Examples.{twinBytes}
 use Rattle.render.specs.Listing.{row, totals, refusedLine, listingOf}
 
 -- the lines as 01 prints them
