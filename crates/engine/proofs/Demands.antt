@@ -1,5 +1,5 @@
 -- The three demands, proved. Assumes nothing.
-use mathlib.Core.Path.{_≡_, refl, sym, ap, _∙_, subst}
+use mathlib.Core.Path.{_≡_, refl, sym, ap, _∙_}
 use mathlib.Core.Logic.{⊎-elim, _↔_}
 use mathlib.Core.Bool.{true, cond}
 use mathlib.Core.List.{List, [], _∷_}
@@ -9,7 +9,7 @@ use lib.Dec.{ltb}
 use lib.ListN.{length, getD}
 use borrow.Author.Tests.{le-ltb, lt-ltb}
 use Rattle.bits.specs.Lists.{overwritten}
-use Rattle.bits.proofs.Ranges.{length-places, places-at}
+use Rattle.bits.proofs.Ranges.{places-at}
 use Rattle.bits.proofs.Logic.{clash}
 use Rattle.network.specs.declared.Session.{Session}
 use Rattle.network.specs.declared.TablesAnswer.the-variants as tables
@@ -26,11 +26,11 @@ use Rattle.network.specs.State.{stateTest}
 use Rattle.network.specs.Load.{loadDone, onward, readOf, opened, loadOf}
 use Rattle.network.specs.Write.{bytesOf}
 use Rattle.network.specs.Calls.{gateTest, tableTest, harmTest, exchangeTests, heldClosed, exchangeAnswer, exchanged, exchangeOf, verdictOf, gateTables, givenTables, tablesOf, Filled, roomTest, filled, setWords, patternSetsOf, writeOf, countsFor, countsOf, withLength, writtenOf}
-use Rattle.network.specs.Sessions.{after, lastAccepted, NoHarm, FirstHarm}
+use Rattle.network.specs.Sessions.{after, NoHarm, FirstHarm}
 use Rattle.network.proofs.TestLaws.{alone, count-e}
 use Rattle.network.proofs.Valid.{valid-e, state-e, state-i}
 use Rattle.network.proofs.Fresh.{Fresh}
-use Rattle.network.proofs.Exchanges.{loaded-length, loaded-inputs, gate-e, open-at, gates-most, after-is, after-valid, after-loaded}
+use Rattle.network.proofs.Exchanges.{loaded-length, loaded-inputs, gate-e, open-at, gates-most, after-is, after-valid, after-loaded, after-shaped}
 use Rattle.network.proofs.Reached.{loaded-fresh, loaded-shaped}
 use Rattle.network.proofs.Harm.{harm-done, harm-none, harm-at}
 use Rattle.network.proofs.Demand3.{demand3-of, rule4-of}
@@ -138,24 +138,10 @@ module _ (s : Session) (fresh : Fresh s) (rs : List Replacement) where
       ∙ open-at (loadedNet s) (g - s .n) (omega (arith, gates-most s fresh)) (omega (arith, loaded-length s))
       ∙ ap (openTable (loadedNet s)) back
 
-  -- exchanges leave the lengths of a session's arrays
-  after-shaped : Shaped s → Shaped (after s rs)
-  after-shaped shape =
-      subst Shaped (sym (after-is s fresh rs)) (record {
-        words = shape .words;
-        arities = shape .arities;
-        slots = shape .slots;
-        loads = shape .loads;
-        currents = length-places mostGates (λ g. lastAccepted (loadedNet s) rs (s .n + g) (getD (s .loaded) g 0));
-        opens = shape .opens;
-        outs = shape .outs;
-        wide = shape .wide;
-      })
-
   after-reached : Shaped s → Reached s (after s rs)
   after-reached shape = record {
     valid = state-i (after s rs) (after-valid s fresh rs);
-    shaped = after-shaped shape;
+    shaped = after-shaped s fresh rs shape;
     loaded = after-loaded s fresh rs;
     opens = after-open;
   }

@@ -13,7 +13,7 @@ use Rattle.bits.specs.declared.Found.{Found}
 use Rattle.bits.specs.declared.Found.the-variants.{At, Nothing}
 use Rattle.bits.specs.Range.{places, smallest}
 use Rattle.bits.specs.Bit.{bit}
-use Rattle.bits.proofs.Ranges.{and-i, by-cases, places-at, places-ext, bit-table}
+use Rattle.bits.proofs.Ranges.{and-i, by-cases, length-places, places-at, places-ext, bit-table}
 use Rattle.bits.proofs.Logic.{not-not}
 use Rattle.bits.proofs.Search.{Smallest, smallest-is, smallest-eq, smallest-ext}
 use Rattle.network.specs.declared.Session.{Session}
@@ -27,6 +27,7 @@ use Rattle.network.specs.Compatible.{closed, openTable, openTables}
 use Rattle.network.specs.Flat.{gateAt, netOf, netWith, loadedNet}
 use Rattle.network.specs.Tests.{refuseIf, orElse, first, widthTest}
 use Rattle.network.specs.State.{arityOf, stateFault}
+use Rattle.network.specs.Valid.{Sized, Shaped, Narrow}
 use Rattle.network.specs.Calls.{gateTest, fits, tableTest, alters, entryFound, closedTest, withCurrent, exchangeTests, heldClosed, exchangeAnswer, exchanged, exchangeOf}
 use Rattle.network.specs.Sessions.{after, answers, answerBy, took, lastAccepted, finalTables}
 use Rattle.network.proofs.Fresh.{Fresh}
@@ -292,3 +293,24 @@ module _ (s : Session) (fresh : Fresh s) where
 
   pub after-loaded : (rs : List Replacement) → loadedNet (after s rs) ≡ loadedNet s
   after-loaded rs = ap loadedNet (after-is rs) ∙ loaded-stays s (finalTables s rs)
+
+  -- exchanges leave the lengths of a session's arrays
+  pub after-sized : (rs : List Replacement) → Sized s → Sized (after s rs)
+  after-sized rs z =
+      subst Sized (sym (after-is rs)) (record {
+        words = z .words;
+        arities = z .arities;
+        slots = z .slots;
+        loads = z .loads;
+        currents = length-places mostGates (λ g. lastAccepted (loadedNet s) rs (s .n + g) (getD (s .loaded) g 0));
+        opens = z .opens;
+        outs = z .outs;
+      })
+
+  pub after-shaped : (rs : List Replacement) → Shaped s → Shaped (after s rs)
+  after-shaped rs shape = record { sized = after-sized rs (shape .sized); wide = rw (after-is rs) (shape .wide) }
+
+  -- and what it holds in bytes
+  pub after-narrow : (rs : List Replacement) → Narrow s → Narrow (after s rs)
+  after-narrow rs narrow =
+      subst Narrow (sym (after-is rs)) (record { counts = narrow .counts; arities = narrow .arities; slots = narrow .slots; outs = narrow .outs })

@@ -23,13 +23,13 @@ use Rattle.network.specs.Compatible.{openTable, openTables}
 use Rattle.network.specs.Flat.{loadedNet, currentNet}
 use Rattle.network.specs.Tests.{refuseIf, countTest, faninsTest, widthTest, excludedTest, outputTest}
 use Rattle.network.specs.State.{arityOf, faninsOf, gateFault, outputFault, stateFault}
-use Rattle.network.specs.Valid.{Shaped}
+use Rattle.network.specs.Valid.{Sized, Shaped, Narrow}
 use Rattle.network.specs.Load as load
 use Rattle.network.specs.Load.{started, loadDone, littleEndian, withOutput, outputTests, outputRecord, readOutputs, faninsIn, tableIn, afterFanins, withGate, gateRecord, readGates, setBytes, wordsFrom, excludedIn, withExcluded, isExcluded, excludedTests, excludedRecord, readBody, headerTests, headerRecord, readOf, opened, loadOf}
 use Rattle.network.proofs.Fresh.{Fresh}
-use Rattle.network.proofs.TestLaws.{clear-e, each-i, short-e, count-e, width-i, went}
+use Rattle.network.proofs.TestLaws.{clear-e, each-i, short-e, count-e, width-i, output-e, went}
 use Rattle.network.proofs.Valid.{GateValid, valid-i}
-use Rattle.network.proofs.Slots.{Lengths, lengths-gate, lengths-output, GateIs, gate-new, gate-kept}
+use Rattle.network.proofs.Slots.{sized-started, sized-gate, sized-output, GateIs, gate-new, gate-kept, fanin-bytes, narrow-started, narrow-gate, narrow-output}
 
 -- a word of a session
 abbrev pub Wide : List ℕ → Type 0
@@ -56,14 +56,17 @@ pub record Sound (bytes : List ℕ) (t : Session) (g j : ℕ) : Type 0 where
   pub set-fine : excludedTest (t .n) (t .excluded) ≡ Done
   pub gate : (i : ℕ) → i < g → GateValid t i
   pub output : (i : ℕ) → i < j → outputFault t i ≡ Done
-  pub lengths : Lengths t
+  pub sized : Sized t
   pub same : t .current ≡ t .loaded
-  pub words : length (t .excluded) ≡ excludedWords
+  pub narrow : Narrow t
   pub wide : Bytes bytes → Wide (t .excluded)
 
 module _ (bytes : List ℕ) where
   output-step : (t : Session) (g j x : ℕ) → j < mostOutputs → outputTest (t .n + t .m) x ≡ Done → Sound bytes t g j → Sound bytes (withOutput t j x) g (j + 1)
   output-step t g j x b fine s =
+      let nb = count-e mostInputs (t .n) (s .inputs) in
+      let mb = count-e mostGates (t .m) (s .gates) in
+      let xb = output-e (t .n + t .m) x fine in
       record {
         inputs = s .inputs;
         gates = s .gates;
@@ -75,9 +78,9 @@ module _ (bytes : List ℕ) where
             lt-cases i j (omega arith)
             (λ h. rw (getD-set-other (t .outputs) j i x 0 (λ e. omega arith)) (s .output i h))
             (λ e. rw (e, getD-set-same (t .outputs) j x 0 (omega arith)) fine);
-        lengths = lengths-output t j x (s .lengths);
+        sized = sized-output t j x (s .sized);
         same = s .same;
-        words = s .words;
+        narrow = narrow-output t j x (omega arith) (s .narrow);
         wide = s .wide;
       }
 
@@ -86,6 +89,7 @@ module _ (bytes : List ℕ) where
       → Sound bytes t g 0 → Sound bytes (withGate t g k fs tb) (g + 1) 0
   gate-step t g k fs tb b len a f w s =
       let kb = count-e mostFanins k a in
+      let nb = count-e mostInputs (t .n) (s .inputs) in
       record {
         inputs = s .inputs;
         gates = s .gates;
@@ -100,11 +104,11 @@ module _ (bytes : List ℕ) where
             (gate-kept t g k fs tb (arityOf t i) (faninsOf t i) (getD (t .loaded) i 0) (getD (t .current) i 0) i (omega arith) h
             (record { arity-is = refl; fanins-are = refl; loaded-is = refl; current-is = refl }))
             (v .arity-fine) (v .fanins-fine) (v .loaded-fine) (v .current-fine))
-            (λ e. rw e (gate-valid (withGate t g k fs tb) g k fs tb tb (gate-new t g k fs tb (s .lengths) b len (omega arith)) a f w w));
+            (λ e. rw e (gate-valid (withGate t g k fs tb) g k fs tb tb (gate-new t g k fs tb (s .sized) b len (omega arith)) a f w w));
         output = λ i l. let z : ⊥ = omega arith in absurd z;
-        lengths = lengths-gate t g k fs tb (s .lengths);
+        sized = sized-gate t g k fs tb (s .sized);
         same = ap (λ (l : List ℕ). set l g tb) (s .same);
-        words = s .words;
+        narrow = narrow-gate t g k fs tb (omega arith) (fanin-bytes (t .n + g) fs (omega arith) f) (s .narrow);
         wide = s .wide;
       }
 
@@ -145,6 +149,9 @@ module _ (bytes : List ℕ) where
         → excludedTest n ws ≡ Done → length ws ≡ excludedWords → (Bytes bytes → Wide ws)
         → readGates m 0 (withExcluded (started n m p) ws) rest ≡ loadDone u → Sound bytes u (u .m) (u .p)
     words-sound n m p ws rest a b d x len wide h =
+        let nb = count-e mostInputs n a in
+        let mb = count-e mostGates m b in
+        let pb = count-e mostOutputs p d in
         gates-sound m 0 (withExcluded (started n m p) ws) rest (omega arith)
         (record {
           inputs = a;
@@ -153,9 +160,9 @@ module _ (bytes : List ℕ) where
           set-fine = x;
           gate = λ i l. let z : ⊥ = omega arith in absurd z;
           output = λ i l. let z : ⊥ = omega arith in absurd z;
-          lengths = record { arities = refl; slots = refl; loads = refl; currents = refl; outs = refl };
+          sized = sized-started n m p ws len;
           same = refl;
-          words = len;
+          narrow = narrow-started n m p ws (omega arith) (omega arith) (omega arith);
           wide = wide;
         }) h
 
@@ -276,23 +283,36 @@ loaded-fresh bytes s h =
       valid = opened-fault t ∙ sound-valid bytes t d;
       same = d .same;
       held = ap openTables (sym (opened-loaded t));
-      slots = d .lengths .slots;
-      arities = d .lengths .arities;
-      tables = d .lengths .loads;
+      slots = d .sized .slots;
+      arities = d .sized .arities;
+      tables = d .sized .loads;
+    })
+
+pub loaded-sized : (bytes : List ℕ) (s : Session) → loadOf bytes ≡ loadDone s → Sized s
+loaded-sized bytes s h =
+    let l = load-read bytes s h in
+    let t = l .0 in
+    let z = read-sound bytes t (l .1) .sized in
+    rw (← (l .2)) (record {
+      words = z .words;
+      arities = z .arities;
+      slots = z .slots;
+      loads = z .loads;
+      currents = z .currents;
+      opens = opened-length t;
+      outs = z .outs;
     })
 
 pub loaded-shaped : (bytes : List ℕ) (s : Session) → Bytes bytes → loadOf bytes ≡ loadDone s → Shaped s
 loaded-shaped bytes s b h =
     let l = load-read bytes s h in
+    let w : Wide (opened (l .0) .excluded) = read-sound bytes (l .0) (l .1) .wide b in
+    record { sized = loaded-sized bytes s h; wide = rw (l .2) at w }
+
+-- what a loaded session holds in bytes fits there, also where the numbers of the file are no bytes
+pub loaded-narrow : (bytes : List ℕ) (s : Session) → loadOf bytes ≡ loadDone s → Narrow s
+loaded-narrow bytes s h =
+    let l = load-read bytes s h in
     let t = l .0 in
-    let d = read-sound bytes t (l .1) in
-    rw (← (l .2)) (record {
-      words = d .words;
-      arities = d .lengths .arities;
-      slots = d .lengths .slots;
-      loads = d .lengths .loads;
-      currents = d .lengths .currents;
-      opens = opened-length t;
-      outs = d .lengths .outs;
-      wide = d .wide b;
-    })
+    let b = read-sound bytes t (l .1) .narrow in
+    rw (← (l .2)) (record { counts = b .counts; arities = b .arities; slots = b .slots; outs = b .outs })

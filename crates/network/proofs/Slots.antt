@@ -1,18 +1,24 @@
--- What stands in the slots of a session once a gate or an output has been laid in. Assumes nothing.
+-- What stands in the slots of a session once a gate or an output has been laid in, and that what it holds in bytes fits there. Assumes nothing.
 use mathlib.Core.Path.{_≡_, refl, sym, ap, _∙_}
 use mathlib.Core.List.{List, [], _∷_}
 use Prim.Native.Nat.{ℕ, zero, suc, _+_, _*_, _≤_, _<_}
 use native.Mathlib.Nat.{add-zero}
 use native.Mathlib.Omega.{arith}
-use lib.ListN.{length, getD, set, length-set}
+use native.Mathlib.Decide.{decLt}
+use lib.ListN.{length, getD, set, replicate, length-set, List·getD-eq-default}
 use lib.Seq.{sets, length-sets, getD-set-same, getD-set-other, ext-getD}
 use Rattle.bits.specs.Bounds.{gatePlaces}
+use Rattle.bits.specs.Lists.{Bytes}
 use Rattle.bits.specs.Range.{places}
 use Rattle.bits.proofs.Ranges.{length-places, places-at, places-ext}
 use Rattle.network.specs.declared.Session.{Session}
-use Rattle.network.specs.Bounds.{mostGates, mostOutputs, faninPlaces}
+use Rattle.network.specs.declared.Answer.the-variants.{Done}
+use Rattle.network.specs.Bounds.{mostGates, mostOutputs, faninPlaces, excludedWords}
+use Rattle.network.specs.Tests.{faninsTest}
 use Rattle.network.specs.State.{arityOf, faninsOf}
-use Rattle.network.specs.Load.{withGate, withOutput}
+use Rattle.network.specs.Valid.{Sized, Narrow}
+use Rattle.network.specs.Load.{started, withGate, withOutput, withExcluded}
+use Rattle.network.proofs.TestLaws.{fanins-e}
 
 -- ## Lists
 
@@ -38,24 +44,31 @@ sets-at (v ∷ vs) l i (suc r) h b =
 
 -- ## A session's slots
 
-pub record Lengths (t : Session) : Type 0 where
-  pub arities : length (t .arity) ≡ mostGates
-  pub slots : length (t .fanins) ≡ faninPlaces
-  pub loads : length (t .loaded) ≡ mostGates
-  pub currents : length (t .current) ≡ mostGates
-  pub outs : length (t .outputs) ≡ mostOutputs
+-- a session that holds nothing but its counts and its excluded set
+pub sized-started : (n m p : ℕ) (ws : List ℕ) → length ws ≡ excludedWords → Sized (withExcluded (started n m p) ws)
+sized-started n m p ws h = record { words = h; arities = refl; slots = refl; loads = refl; currents = refl; opens = refl; outs = refl }
 
-pub lengths-gate : (t : Session) (g k : ℕ) (fs : List ℕ) (tb : ℕ) → Lengths t → Lengths (withGate t g k fs tb)
-lengths-gate t g k fs tb r = record {
-  arities = length-set (t .arity) g k ∙ r .arities;
-  slots = length-sets (t .fanins) (gatePlaces * g) fs ∙ r .slots;
-  loads = length-set (t .loaded) g tb ∙ r .loads;
-  currents = length-set (t .current) g tb ∙ r .currents;
-  outs = r .outs;
+pub sized-gate : (t : Session) (g k : ℕ) (fs : List ℕ) (tb : ℕ) → Sized t → Sized (withGate t g k fs tb)
+sized-gate t g k fs tb z = record {
+  words = z .words;
+  arities = length-set (t .arity) g k ∙ z .arities;
+  slots = length-sets (t .fanins) (gatePlaces * g) fs ∙ z .slots;
+  loads = length-set (t .loaded) g tb ∙ z .loads;
+  currents = length-set (t .current) g tb ∙ z .currents;
+  opens = z .opens;
+  outs = z .outs;
 }
 
-pub lengths-output : (t : Session) (i x : ℕ) → Lengths t → Lengths (withOutput t i x)
-lengths-output t i x r = record { arities = r .arities; slots = r .slots; loads = r .loads; currents = r .currents; outs = length-set (t .outputs) i x ∙ r .outs }
+pub sized-output : (t : Session) (i x : ℕ) → Sized t → Sized (withOutput t i x)
+sized-output t i x z = record {
+  words = z .words;
+  arities = z .arities;
+  slots = z .slots;
+  loads = z .loads;
+  currents = z .currents;
+  opens = z .opens;
+  outs = length-set (t .outputs) i x ∙ z .outs;
+}
 
 -- gate i has k fan-ins fs, the loaded table lt and the current table ct
 pub record GateIs (k : ℕ) (fs : List ℕ) (lt ct : ℕ) (t : Session) (i : ℕ) : Type 0 where
@@ -66,8 +79,8 @@ pub record GateIs (k : ℕ) (fs : List ℕ) (lt ct : ℕ) (t : Session) (i : ℕ
 
 module _ (t : Session) (g k : ℕ) (fs : List ℕ) (tb : ℕ) where
   -- the gate that is laid in
-  pub gate-new : Lengths t → g < mostGates → length fs ≡ k → k ≤ gatePlaces → GateIs k fs tb tb (withGate t g k fs tb) g
-  gate-new lengths l e b =
+  pub gate-new : Sized t → g < mostGates → length fs ≡ k → k ≤ gatePlaces → GateIs k fs tb tb (withGate t g k fs tb) g
+  gate-new z l e b =
       let a = getD-set-same (t .arity) g k 0 (omega arith) in
       let p : ℕ → ℕ = λ r. getD (sets (t .fanins) (gatePlaces * g) fs) (gatePlaces * g + r) 0 in
       record {
@@ -94,3 +107,43 @@ module _ (t : Session) (g k : ℕ) (fs : List ℕ) (tb : ℕ) where
         loaded-is = getD-set-other (t .loaded) g i tb 0 (λ e. omega arith) ∙ a .loaded-is;
         current-is = getD-set-other (t .current) g i tb 0 (λ e. omega arith) ∙ a .current-is;
       }
+
+-- ## Bytes
+
+byte-set : (l : List ℕ) (i v : ℕ) → v < 256 → Bytes l → Bytes (set l i v)
+byte-set [] i v h b j = b j
+byte-set (x ∷ xs) zero v h b zero = h
+byte-set (x ∷ xs) zero v h b (suc j) = b (suc j)
+byte-set (x ∷ xs) (suc i) v h b zero = b 0
+byte-set (x ∷ xs) (suc i) v h b (suc j) = byte-set xs i v h (λ k. b (suc k)) j
+
+byte-sets : (vs l : List ℕ) (i : ℕ) → Bytes vs → Bytes l → Bytes (sets l i vs)
+byte-sets [] l i c b = b
+byte-sets (v ∷ vs) l i c b = byte-sets vs (set l i v) (suc i) (λ k. c (suc k)) (byte-set l i v (c 0) b)
+
+zero-bytes : (n : ℕ) → Bytes (replicate n 0)
+zero-bytes zero i = omega arith
+zero-bytes (suc n) zero = omega arith
+zero-bytes (suc n) (suc i) = zero-bytes n i
+
+-- fan-ins that pass 4 with a limit of at most 256
+pub fanin-bytes : (limit : ℕ) (fs : List ℕ) → limit ≤ 256 → faninsTest limit fs ≡ Done → Bytes fs
+fanin-bytes limit fs b h r = by (decLt r (length fs))
+  where
+    by : Dec (r < length fs) → getD fs r 0 < 256
+    by (yes y) = omega (arith, fanins-e limit fs h r y)
+    by (no y) = rw (List·getD-eq-default fs 0 {n = r} (omega arith)) (omega arith)
+
+pub narrow-started : (n m p : ℕ) (ws : List ℕ) → n < 256 → m < 256 → p < 256 → Narrow (withExcluded (started n m p) ws)
+narrow-started n m p ws a b c = record { counts = (a, b, c); arities = zero-bytes mostGates; slots = zero-bytes faninPlaces; outs = zero-bytes mostOutputs }
+
+pub narrow-gate : (t : Session) (g k : ℕ) (fs : List ℕ) (tb : ℕ) → k < 256 → Bytes fs → Narrow t → Narrow (withGate t g k fs tb)
+narrow-gate t g k fs tb a f b = record {
+  counts = b .counts;
+  arities = byte-set (t .arity) g k a (b .arities);
+  slots = byte-sets fs (t .fanins) (gatePlaces * g) f (b .slots);
+  outs = b .outs;
+}
+
+pub narrow-output : (t : Session) (i x : ℕ) → x < 256 → Narrow t → Narrow (withOutput t i x)
+narrow-output t i x a b = record { counts = b .counts; arities = b .arities; slots = b .slots; outs = byte-set (t .outputs) i x a (b .outs) }

@@ -5,6 +5,7 @@ use mathlib.Core.List.{List}
 use Prim.Native.Nat.{ℕ, _+_, _*_, _^_, _<_, _≤_}
 use lib.ListN.{length, getD}
 use Rattle.bits.specs.Bounds.{mostInputs, gatePlaces}
+use Rattle.bits.specs.Lists.{Bytes}
 use Rattle.network.specs.declared.Session.{Session}
 use Rattle.network.specs.Bounds.{mostGates, mostOutputs, mostFanins, faninPlaces, excludedWords}
 
@@ -25,8 +26,8 @@ pub record OutputsOk (outputs : List ℕ) (p e : ℕ) : Type 0 where
   pub most : p ≤ mostOutputs
   pub each : (i : ℕ) → i < p → getD outputs i 0 < e
 
--- the lengths of a session's arrays, and the range of a word
-pub record Shaped (s : Session) : Type 0 where
+-- the lengths of a session's arrays
+pub record Sized (s : Session) : Type 0 where
   pub words : length (s .excluded) ≡ excludedWords
   pub arities : length (s .arity) ≡ mostGates
   pub slots : length (s .fanins) ≡ faninPlaces
@@ -34,4 +35,15 @@ pub record Shaped (s : Session) : Type 0 where
   pub currents : length (s .current) ≡ mostGates
   pub opens : length (s .open_tables) ≡ mostGates
   pub outs : length (s .outputs) ≡ mostOutputs
+
+-- and the range of a word
+pub record Shaped (s : Session) : Type 0 where
+  pub sized : Sized s
   pub wide : (w : ℕ) → getD (s .excluded) w 0 < 2 ^ 64
+
+-- the range of what a session holds in bytes
+pub record Narrow (s : Session) : Type 0 where
+  pub counts : (s .n < 256) × (s .m < 256) × (s .p < 256)
+  pub arities : Bytes (s .arity)
+  pub slots : Bytes (s .fanins)
+  pub outs : Bytes (s .outputs)

@@ -18,17 +18,17 @@ use Rattle.network.specs.declared.Answer.the-variants.{Done, Refused}
 use Rattle.network.specs.Bounds.{mostGates, mostOutputs, faninPlaces, excludedWords}
 use Rattle.network.specs.State.{stateTest}
 use Rattle.network.specs.Load.{loadDone, onward}
-use Rattle.network.specs.Valid.{Shaped}
+use Rattle.network.specs.Valid.{Sized, Narrow}
 use Rattle.network.specs.Calls.{withCurrent, roomTest}
 use Rattle.network.proofs.TestLaws.{passed, clear-e}
-use Rattle.packed.specs.Packed.{bytesHeld, wordsHeld, packedOf, Narrow, sessionWords, byteWords, sessionIn, bytesTest, wordsTest, unpackOf, arityStart, faninsStart, outputsStart, excludedStart, loadedStart, currentStart, openStart}
+use Rattle.packed.specs.Packed.{bytesHeld, wordsHeld, packedOf, sessionWords, byteWords, sessionIn, bytesTest, wordsTest, unpackOf, arityStart, faninsStart, outputsStart, excludedStart, loadedStart, currentStart, openStart}
 use Rattle.packed.proofs.Reading.{length-bytes, length-words, reads, tested}
 use Rattle.packed.proofs.Parts.{cut, join, regroup, three, part-before, part-behind, part-set, fits}
 
 -- ## A session and its words
 
 -- how many words a packed session has
-pub packed-length : (s : Session) → Shaped s → length (packedOf s) ≡ sessionWords
+pub packed-length : (s : Session) → Sized s → length (packedOf s) ≡ sessionWords
 unfolding packedOf
 packed-length s z =
     let a = length-bytes s z in
@@ -37,7 +37,7 @@ packed-length s z =
     omega arith
 
 -- read back it is the same, whatever words stand behind it
-pub packed-back : (s : Session) (behind : List ℕ) → Shaped s → sessionIn (packedOf s ++ behind) ≡ s
+pub packed-back : (s : Session) (behind : List ℕ) → Sized s → sessionIn (packedOf s ++ behind) ≡ s
 unfolding packedOf
 packed-back s behind z =
     let ws = packedOf s ++ behind in
@@ -115,7 +115,7 @@ pub repacked : (ws : List ℕ) → unpackOf ws .answer ≡ Done → overwritten 
 repacked ws e = read-over ws ws (accepted-long ws e) refl
 
 -- `unpack` gives back every valid session that was packed, over whatever words
-pub unpacks : (s : Session) (ws : List ℕ) → Shaped s → Narrow s → stateTest s ≡ Done → unpackOf (overwritten (packedOf s) ws) ≡ loadDone s
+pub unpacks : (s : Session) (ws : List ℕ) → Sized s → Narrow s → stateTest s ≡ Done → unpackOf (overwritten (packedOf s) ws) ≡ loadDone s
 unpacks s ws z b v =
     let behind = drop (length (packedOf s)) ws in
     let new = packedOf s ++ behind in

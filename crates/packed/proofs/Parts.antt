@@ -10,8 +10,8 @@ use lib.Seq.{take-add, take-at, drop-at, drop-drop, take-set-le, take-set-lt, dr
 use borrow.Author.Tests.{lt-ltb}
 use Rattle.bits.specs.Lists.{Bytes}
 use Rattle.network.specs.declared.Session.{Session}
-use Rattle.network.specs.Valid.{Shaped}
-use Rattle.packed.specs.Packed.{bytesHeld, wordsHeld, packedOf, Narrow, part, arityStart, sessionWords, byteWords}
+use Rattle.network.specs.Valid.{Sized, Narrow}
+use Rattle.packed.specs.Packed.{bytesHeld, wordsHeld, packedOf, part, arityStart, sessionWords, byteWords}
 use Rattle.packed.proofs.Reading.{length-bytes}
 
 -- what stands at a place, and what stands behind it
@@ -69,7 +69,7 @@ bytes-held s b =
     (b .slots))
     (b .outs)
 
-pub fits : (s : Session) (behind : List ℕ) → Shaped s → Narrow s → (i : ℕ) → i < byteWords → ltb (getD (packedOf s ++ behind) i 0) 256 ≡ true
+pub fits : (s : Session) (behind : List ℕ) → Sized s → Narrow s → (i : ℕ) → i < byteWords → ltb (getD (packedOf s ++ behind) i 0) 256 ≡ true
 unfolding packedOf
 fits s behind z b i l =
     let n = length-bytes s z in

@@ -17,14 +17,14 @@ use Rattle.network.specs.declared.Refusal.the-variants.{BufferTooShort, Invalid
 use Rattle.network.specs.declared.Answer.{Answer}
 use Rattle.network.specs.Bounds.{mostGates, mostOutputs, faninPlaces, excludedWords}
 use Rattle.network.specs.State.{stateTest}
-use Rattle.network.specs.Valid.{Shaped}
+use Rattle.network.specs.Valid.{Sized}
 use Rattle.network.specs.Load.{loadDone, loadRefused, onward}
 use Rattle.network.proofs.TestLaws.{alone}
 use Rattle.packed.specs.Packed.{bytesHeld, wordsHeld, byteWords, part, sessionIn, allBytes, bytesTest, wordsTest, unpackOf, arityStart, faninsStart, outputsStart, excludedStart, loadedStart, currentStart, openStart, sessionWords}
 
 -- ## Reading: the words from place `at` on into b₀, of which the first i are read
 
-length-part : (ws : List ℕ) (at c : ℕ) → at + c ≤ length ws → length (part ws at c) ≡ c
+pub length-part : (ws : List ℕ) (at c : ℕ) → at + c ≤ length ws → length (part ws at c) ≡ c
 length-part ws at c h = length-take-le c (drop at ws) (let n = length-drop at ws in omega arith)
 
 part-more : (ws : List ℕ) (at i : ℕ) → at + i < length ws → part ws at (i + 1) ≡ part ws at i ++ getD ws (at + i) 0 ∷ []
@@ -68,14 +68,14 @@ bytes-every ws (suc c) h =
 
 -- ## The whole session
 
-pub length-bytes : (s : Session) → Shaped s → length (bytesHeld s) ≡ byteWords
+pub length-bytes : (s : Session) → Sized s → length (bytesHeld s) ≡ byteWords
 length-bytes s z =
     let a = z .arities in
     let b = z .slots in
     let c = z .outs in
     simp length-append (omega arith)
 
-pub length-words : (s : Session) → Shaped s → length (wordsHeld s) ≡ sessionWords - byteWords
+pub length-words : (s : Session) → Sized s → length (wordsHeld s) ≡ sessionWords - byteWords
 length-words s z =
     let a = z .words in
     let b = z .loads in

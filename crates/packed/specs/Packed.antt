@@ -1,7 +1,7 @@
 -- A session as a list of numbers, one to a word: how a program in another language holds it. Assumes nothing.
 use mathlib.Core.Bool.{Bool, true, not, _&&_}
 use mathlib.Core.List.{List, [], _∷_, _++_}
-use Prim.Native.Nat.{ℕ, _+_, _<_}
+use Prim.Native.Nat.{ℕ, _+_}
 use lib.Dec.{ltb}
 use lib.ListN.{getD, take, drop}
 use Rattle.network.specs.declared.Session.{Session}
@@ -54,13 +54,6 @@ sessionWords = openStart + mostGates
 
 abbrev pub byteWords : ℕ
 byteWords = excludedStart
-
--- the range of what a session holds in bytes
-pub record Narrow (s : Session) : Type 0 where
-  pub counts : (s .n < 256) × (s .m < 256) × (s .p < 256)
-  pub arities : (i : ℕ) → getD (s .arity) i 0 < 256
-  pub slots : (i : ℕ) → getD (s .fanins) i 0 < 256
-  pub outs : (i : ℕ) → getD (s .outputs) i 0 < 256
 
 -- c words from place at on
 abbrev pub part : List ℕ → (at c : ℕ) → List ℕ

@@ -11,9 +11,10 @@ use Rattle.bits.proofs.Ranges.{lt-cases, length-places, places-ext}
 use Rattle.network.specs.declared.Session.{Session}
 use Rattle.network.specs.Bounds.{mostGates, mostOutputs}
 use Rattle.network.specs.Flat.{gateAt, gatesOf, netOf, netWith, currentNet}
+use Rattle.network.specs.Valid.{Sized}
 use Rattle.network.specs.State.{arityOf, faninsOf}
 use Rattle.network.specs.Load.{withGate, withOutput}
-use Rattle.network.proofs.Slots.{Lengths, lengths-gate, lengths-output, GateIs, gate-new, gate-kept}
+use Rattle.network.proofs.Slots.{sized-gate, sized-output, GateIs, gate-new, gate-kept}
 
 -- gate j of t is gate j of s, loaded and current the current one of s
 abbrev pub SameGate : Session → Session → ℕ → Type 0
@@ -25,7 +26,7 @@ pub record Rebuilt (s t : Session) (g i : ℕ) : Type 0 where
   pub m-same : t .m ≡ s .m
   pub p-same : t .p ≡ s .p
   pub excluded-same : t .excluded ≡ s .excluded
-  pub lengths : Lengths t
+  pub sized : Sized t
   pub gate : (j : ℕ) → j < g → SameGate s t j
   pub output : (j : ℕ) → j < i → getD (t .outputs) j 0 ≡ getD (s .outputs) j 0
 
@@ -47,24 +48,24 @@ module _ (s : Session) where
         m-same = l .m-same;
         p-same = l .p-same;
         excluded-same = l .excluded-same;
-        lengths = lengths-gate t g k fs tb (l .lengths);
+        sized = sized-gate t g k fs tb (l .sized);
         gate = λ j h.
             lt-cases j g (omega arith)
             (λ q. gate-kept t g k fs tb (arityOf s j) (faninsOf s j) (getD (s .current) j 0) (getD (s .current) j 0) j (few j h) q (l .gate j q))
-            (λ q. rw q (gate-new t g k fs tb (l .lengths) b (length-places k _) (few g (omega arith))));
+            (λ q. rw q (gate-new t g k fs tb (l .sized) b (length-places k _) (few g (omega arith))));
         output = λ j h. let z : ⊥ = omega arith in absurd z;
       }
 
   pub rebuild-output : (t : Session) (g i : ℕ) → i < mostOutputs → Rebuilt s t g i → Rebuilt s (rebuildOutput s t i) g (i + 1)
   rebuild-output t g i b l =
       let x = getD (s .outputs) i 0 in
-      let n = l .lengths .outs in
+      let n = l .sized .outs in
       record {
         n-same = l .n-same;
         m-same = l .m-same;
         p-same = l .p-same;
         excluded-same = l .excluded-same;
-        lengths = lengths-output t i x (l .lengths);
+        sized = sized-output t i x (l .sized);
         gate = λ j h. let a = l .gate j h in
             record { arity-is = a .arity-is; fanins-are = a .fanins-are; loaded-is = a .loaded-is; current-is = a .current-is };
         output = λ j h.

@@ -21,6 +21,7 @@ use Rattle.network.specs.Write.{wordBytes, allZero, headerBytes, excludedBytes,
 use Rattle.network.proofs.Bytes.{length-words}
 use Rattle.network.proofs.TestLaws.{clear-i, short-i, mark-i, count-e}
 use Rattle.network.proofs.Valid.{Valid, valid-e}
+use Rattle.network.proofs.Slots.{sized-started}
 use Rattle.network.proofs.Reached.{load-back, opened-loaded, opened-current}
 use Rattle.roundtrip.specs.RoundTrip.{Returns, RoundTrip}
 use Rattle.roundtrip.proofs.Rebuilt.{Rebuilt, rebuildGate, rebuildOutput, rebuild-gate, rebuild-output, same-net}
@@ -59,7 +60,7 @@ module _ (s : Session) (shape : Shaped s) (v : Valid s) where
   unfolding readBody excludedBytes
   body-back true rest e x =
       let z = zeros (s .excluded) e in
-      let w = shape .words in
+      let w = shape .sized .words in
       rw (e, x) (rw (z, w))
   body-back false rest e x =
       let n = s .n in
@@ -67,11 +68,11 @@ module _ (s : Session) (shape : Shaped s) (v : Valid s) where
       let z = setBytes n in
       let b = count-e mostInputs n (v .inputs) in
       let most = set-bytes-most n (b .1) in
-      let len : length (take z (wordBytes ws)) ≡ z = length-take-le z (wordBytes ws) (rw (length-words ws, shape .words) (omega arith)) in
+      let len : length (take z (wordBytes ws)) ≡ z = length-take-le z (wordBytes ws) (rw (length-words ws, shape .sized .words) (omega arith)) in
       let tk = take-at (take z (wordBytes ws)) rest z len in
       let dr = drop-at (take z (wordBytes ws)) rest z len in
       let wd : wordsFrom excludedWords (take z (wordBytes ws)) ≡ ws =
-      rw (shape .words) at (words-back ws (2 ^ n) z (within n ws (shape .words) (shape .wide) (v .set-fine)) (holds n)) in
+      rw (shape .sized .words) at (words-back ws (2 ^ n) z (within n ws (shape .sized .words) (shape .wide) (v .set-fine)) (holds n)) in
       let all = 0x4E ∷ 0x58 ∷ take z (wordBytes ws) ++ rest in
       let long : z ≤ length (take z (wordBytes ws) ++ rest) = simp length-append (omega arith) in
       let ok = set-record n (take z (wordBytes ws) ++ rest) ws long (rw tk wd) (v .set-fine) in
@@ -123,7 +124,7 @@ module _ (s : Session) (shape : Shaped s) (v : Valid s) where
         m-same = refl;
         p-same = refl;
         excluded-same = refl;
-        lengths = record { arities = refl; slots = refl; loads = refl; currents = refl; outs = refl };
+        sized = sized-started (s .n) (s .m) (s .p) (s .excluded) (shape .sized .words);
         gate = λ j h. let z : ⊥ = omega arith in absurd z;
         output = λ j h. let z : ⊥ = omega arith in absurd z;
       }))

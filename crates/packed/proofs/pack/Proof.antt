@@ -1,17 +1,15 @@
 -- `pack`: the bytes, and the words behind them. Assumes nothing.
 use mathlib.Core.Path.{_≡_, refl}
 use mathlib.Core.List.{List}
-use Prim.Native.Nat.{ℕ, _+_, _^_, _<_, _≤_}
+use Prim.Native.Nat.{_+_, _≤_}
 use native.Mathlib.Omega.{arith}
-use mir.Syntax.{w64}
-use mir.Val.{Fits}
-use lib.ListN.{length, getD}
+use lib.ListN.{length}
 use lib.Seq.{sets}
 use borrow.Author.Needs.{needs}
 use Rattle.bits.specs.Lists.{overwritten}
 use Rattle.buffer.proofs.Laying.{laid-start, lay-two}
 use Rattle.network.specs.declared.Session.{Session}
-use Rattle.network.specs.Valid.{Shaped}
+use Rattle.network.specs.Valid.{Sized}
 use Rattle.packed.specs.Packed.{bytesHeld, wordsHeld, packedOf, excludedStart, sessionWords}
 use Rattle.packed.proofs.Reading.{length-bytes}
 use Rattle.packed.proofs.Inverse.{packed-length}
@@ -19,7 +17,7 @@ use Rattle.packed.proofs.pack.Statement.{statement}
 use Rattle.packed.proofs.pack.Tie as tie
 
 -- the two stretches as one, at the start of b
-packs : {b₁ b₂ : List ℕ} (b : List ℕ) (s : Session) → Shaped s → sessionWords ≤ length b → b₁ ≡ sets b 0 (bytesHeld s) → b₂ ≡ sets b₁ excludedStart (wordsHeld s)
+packs : {b₁ b₂ : List ℕ} (b : List ℕ) (s : Session) → Sized s → sessionWords ≤ length b → b₁ ≡ sets b 0 (bytesHeld s) → b₂ ≡ sets b₁ excludedStart (wordsHeld s)
     → b₂ ≡ overwritten (packedOf s) b
 unfolding packedOf
 packs {b₁} {b₂} b s z h e f =
@@ -41,8 +39,7 @@ returns : tie.Need-returns
 returns c =
     let start = c .before .before .before .before .before .before .before .before .before in
     let s = start .args .s in
-    let wide : (w : ℕ) → getD (s .excluded) w 0 < 2 ^ 64 = λ w. (let f : Fits w64 (getD (s .excluded) w 0) = search needs in omega arith) in
-    let z : Shaped s = search needs in
+    let z : Sized s = search needs in
     packs (start .args .words .now) s z (start .pre) (c .before .before .before .before .before .before .pack-bytes .ensures) (c .before .before .pack-words .ensures)
 
 pub pack-spec : {M : Type 1} → statement M
