@@ -17,7 +17,7 @@ use Rattle.network.specs.State.{stateTest}
 use Rattle.network.specs.Calls.{Filled, roomTest, filled, writeAnswer, Written, withLength}
 use Rattle.network.proofs.TestLaws.{refused-done}
 use Rattle.boundary.specs.Boundary.{Left, left}
-use Rattle.boundary.proofs.Names.{Names, names-first, names-room, names-state}
+use Rattle.boundary.proofs.Names.{NamesMost, names-first, names-room, names-state}
 use Rattle.boundary.proofs.Leaves.{Leaves, refused}
 
 abbrev pub fills : Answer → (given new buffer out : List ℕ) → Left
@@ -30,10 +30,10 @@ module _ (y : Answer) (given new buffer out : List ℕ) {v : Answer} {b : List �
   buffer-is : b ≡ filled y new buffer .buffer
   buffer-is = ap (λ (f : Filled). f .buffer) q
 
-  pub filled-refused : {r : Refusal} {k : ℕ} → Names 0 y → v ≡ Refused r → k ≡ numberOf r → Leaves (fills y given new buffer out) k b out
+  pub filled-refused : {r : Refusal} {k : ℕ} → NamesMost 0 y → v ≡ Refused r → k ≡ numberOf r → Leaves (fills y given new buffer out) k b out
   filled-refused {r} {k} n h p = rw buffer-is (go y n (answer-is ∙ h))
     where
-      go : (a : Answer) → Names 0 a → filled a new buffer .answer ≡ Refused r → Leaves (fills a given new buffer out) k (filled a new buffer .buffer) out
+      go : (a : Answer) → NamesMost 0 a → filled a new buffer .answer ≡ Refused r → Leaves (fills a given new buffer out) k (filled a new buffer .buffer) out
       go Done m e = refused-done r (sym e)
       go (Refused f) m e = refused given new buffer out e m p
 
@@ -62,7 +62,7 @@ module _ (y : Answer) (new buffer out : List ℕ) {w : WriteAnswer} {b : List �
       go Done d = (refl, cc)
       go (Refused r) d = let z : _≡_ {A = ℕ} 0 1 = cc in let m : ⊥ = omega arith in absurd m
 
-  pub unwritten : {r : Refusal} {k : ℕ} → Names 0 y → w ≡ write.Refused r → k ≡ numberOf r → Leaves (fills y (length new ∷ []) new buffer out) k b out
+  pub unwritten : {r : Refusal} {k : ℕ} → NamesMost 0 y → w ≡ write.Refused r → k ≡ numberOf r → Leaves (fills y (length new ∷ []) new buffer out) k b out
   unwritten {r} m h p = filled-refused y (length new ∷ []) new buffer out filled-as m (go (filled y new buffer .answer) (sym h ∙ told-as)) p
     where
       go : (a : Answer) → write.Refused r ≡ writeAnswer a (length new) → a ≡ Refused r
@@ -70,5 +70,5 @@ module _ (y : Answer) (new buffer out : List ℕ) {w : WriteAnswer} {b : List �
       go (Refused f) d = cc
 
 -- the session, then the room
-pub names-filling : (s : Session) (needed : ℕ) (buffer : List ℕ) → Names 0 (first (stateTest s ∷ roomTest needed buffer ∷ []))
+pub names-filling : (s : Session) (needed : ℕ) (buffer : List ℕ) → NamesMost 0 (first (stateTest s ∷ roomTest needed buffer ∷ []))
 names-filling s needed buffer = names-first 0 (stateTest s ∷ roomTest needed buffer ∷ []) (names-state 0 s, (names-room 0 needed buffer, tt))

@@ -21,7 +21,7 @@ use Rattle.network.specs.Calls.{roomTest}
 use Rattle.network.proofs.TestLaws.{passed, clear-e, alone, stopped, went-on}
 use Rattle.packed.specs.Packed.{sessionWords, sessionIn, bytesTest, wordsTest, unpackOf}
 use Rattle.boundary.specs.Boundary.{Left, left, Work, onSession}
-use Rattle.boundary.proofs.Names.{Names, names-first, names-room, names-words}
+use Rattle.boundary.proofs.Names.{NamesMost, names-first, names-room, names-words}
 
 -- ## What a call leaves
 
@@ -29,12 +29,12 @@ abbrev pub Leaves : Left → (number : ℕ) (buffer out : List ℕ) → Type 0
 Leaves x number buffer out = record { number = number; buffer = buffer; out = out } ≡ x
 
 module _ {a : Answer} (given new buffer out : List ℕ) where
-  pub told : {r : Refusal} {k : ℕ} {o : List ℕ} → a ≡ Refused r → k ≡ numberOf r → o ≡ overwritten (valuesOf r) out → Leaves (left a given new buffer out) k buffer o
-  told e p q = rw (e, p, q)
+  pub refused-with : {r : Refusal} {k : ℕ} {o : List ℕ} → a ≡ Refused r → k ≡ numberOf r → o ≡ overwritten (valuesOf r) out → Leaves (left a given new buffer out) k buffer o
+  refused-with e p q = rw (e, p, q)
 
   -- a refusal that names nothing changes nothing
-  pub refused : {r : Refusal} {k : ℕ} → a ≡ Refused r → Names 0 a → k ≡ numberOf r → Leaves (left a given new buffer out) k buffer out
-  refused {r} e h p = told e p (rw (none (valuesOf r) (rw e at h)))
+  pub refused : {r : Refusal} {k : ℕ} → a ≡ Refused r → NamesMost 0 a → k ≡ numberOf r → Leaves (left a given new buffer out) k buffer out
+  refused {r} e h p = refused-with e p (rw (none (valuesOf r) (rw e at h)))
     where
       none : (l : List ℕ) → length l ≤ 0 → l ≡ []
       none [] n = refl
@@ -50,8 +50,8 @@ worked w buffer out = left (first (w .tests)) (w .given) (w .new) buffer out
 -- ## The tests of the words and of the room
 
 -- neither what was tested before the room is refused, nor the room
-pub roomy : {a : Answer} (x : Answer) (needed : ℕ) (buffer : List ℕ) → a ≡ first (x ∷ roomTest needed buffer ∷ []) → a ≡ Done → (x ≡ Done) × (needed ≤ length buffer)
-roomy x needed buffer f h =
+pub room-passed : {a : Answer} (x : Answer) (needed : ℕ) (buffer : List ℕ) → a ≡ first (x ∷ roomTest needed buffer ∷ []) → a ≡ Done → (x ≡ Done) × (needed ≤ length buffer)
+room-passed x needed buffer f h =
     let c = clear-e (x ∷ roomTest needed buffer ∷ []) (sym f ∙ h) in
     (c .0, ltb-false (length buffer) needed (passed (ltb (length buffer) needed) BufferTooShort (c .1 .0)))
 
@@ -97,7 +97,7 @@ module _ (work : Session → Work) (ws buffer out : List ℕ) {l : Loaded} {a : 
   pub opens : a ≡ Done → Open
   unfolding wordsTest
   opens h =
-      let c = roomy (l .answer) (work (l .session) .room) out f h in
+      let c = room-passed (l .answer) (work (l .session) .room) out f h in
       let q = held ws e (c .0) in
       let s = sessionIn ws in
       let w = clear-e (roomTest sessionWords ws ∷ bytesTest ws ∷ stateTest s ∷ []) (words-fine ws e (c .0)) in

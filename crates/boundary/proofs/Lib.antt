@@ -3,3 +3,8 @@ pub mod Leaves
 pub mod Fills
 pub mod Rows
 pub mod Cases
+pub mod Tested
+pub mod Demand1Calls
+pub mod Demand2Calls
+pub mod Demand3Calls
+pub mod AcceptedCalls

@@ -22,12 +22,12 @@ use Rattle.network.specs.State.{stateTest}
 use Rattle.network.specs.Calls.{gateTest, tableTest, alters, entryFound, closedTest, outputFound, firstHarm, harmTest, heldClosed, exchangeTests, exchangeAnswer, verdictOf}
 use Rattle.network.proofs.TestLaws.{alone}
 use Rattle.boundary.specs.Boundary.{left}
-use Rattle.boundary.proofs.Names.{Names, names-or, names-first, names-state, names-gate, names-table}
-use Rattle.boundary.proofs.Leaves.{Leaves, told, done}
+use Rattle.boundary.proofs.Names.{NamesMost, names-or, names-first, names-state, names-gate, names-table}
+use Rattle.boundary.proofs.Leaves.{Leaves, refused-with, done}
 
 -- ## What the answers name
 
-pub names-exchange : (s : Session) (r : Replacement) → Names 1 (exchangeAnswer s r)
+pub names-exchange : (s : Session) (r : Replacement) → NamesMost 1 (exchangeAnswer s r)
 unfolding exchangeAnswer closedTest
 names-exchange s r =
     let N = loadedNet s in
@@ -35,23 +35,23 @@ names-exchange s r =
     names-first 1 (stateTest s ∷ exchangeTests N shut r)
     (names-state 1 s, (names-gate 1 N (r .signal), (names-table 1 N r, (go (smallest (entries N (r .signal)) (λ t. shut t && alters N r t)), tt))))
   where
-    go : (f : Found) → Names 1 (entryFound f)
+    go : (f : Found) → NamesMost 1 (entryFound f)
     go (At t) = omega arith
     go Nothing = omega arith
 
-names-first-harm : (h : ℕ → ℕ → Bool) (p : ℕ) (xs : List ℕ) → Names 2 (firstHarm h p xs)
+names-first-harm : (h : ℕ → ℕ → Bool) (p : ℕ) (xs : List ℕ) → NamesMost 2 (firstHarm h p xs)
 names-first-harm h p [] = omega arith
 names-first-harm h p (x ∷ xs) = names-or 2 (outputFound x (smallest p (h x))) (firstHarm h p xs) (go (smallest p (h x))) (names-first-harm h p xs)
   where
-    go : (f : Found) → Names 2 (outputFound x f)
+    go : (f : Found) → NamesMost 2 (outputFound x f)
     go (At i) = omega arith
     go Nothing = omega arith
 
-names-harm : (L M : Net) → Names 2 (harmTest L M)
+names-harm : (L M : Net) → NamesMost 2 (harmTest L M)
 unfolding harmTest
 names-harm L M = names-first-harm (harms L M) (length (L .outputs)) (patternOrder L)
 
-pub names-verdict : (s : Session) (r : Replacement) → Names 2 (verdictOf s r)
+pub names-verdict : (s : Session) (r : Replacement) → NamesMost 2 (verdictOf s r)
 unfolding verdictOf
 names-verdict s r =
     let N = loadedNet s in
@@ -67,7 +67,7 @@ module _ (new buffer out : List ℕ) {y v : Answer} (e : v ≡ y) where
 
   pub judged-refused : {f : Refusal} {k : ℕ} {o : List ℕ} → v ≡ Refused f → k ≡ numberOf f → o ≡ overwritten (valuesOf f) out
       → Leaves (left (first (y ∷ [])) [] new buffer out) k buffer o
-  judged-refused h p q = told [] new buffer out (sym judged ∙ h) p q
+  judged-refused h p q = refused-with [] new buffer out (sym judged ∙ h) p q
 
   pub judged-done : {b : List ℕ} → v ≡ Done → b ≡ overwritten new buffer → Leaves (left (first (y ∷ [])) [] new buffer out) 0 b out
   judged-done h p = done [] new buffer out (sym judged ∙ h) p refl

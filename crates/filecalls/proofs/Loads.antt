@@ -4,7 +4,6 @@ use mathlib.Core.List.{List, [], _∷_}
 use Prim.Native.Nat.{ℕ}
 use native.Mathlib.Omega.{arith}
 use Rattle.bits.specs.Lists.{overwritten}
-use Rattle.bits.proofs.Logic.{clash}
 use Rattle.network.specs.declared.Loaded.{Loaded}
 use Rattle.network.specs.declared.Refusal.{Refusal}
 use Rattle.network.specs.declared.Answer.{Answer}
@@ -16,18 +15,17 @@ use Rattle.network.specs.Calls.{roomTest}
 use Rattle.engine.proofs.Outcomes.{Among, file, read-among}
 use Rattle.packed.specs.Packed.{packedOf, sessionWords}
 use Rattle.boundary.specs.Boundary.{loadAnswer, loadCall}
-use Rattle.boundary.proofs.Silent.{quiet}
-use Rattle.boundary.proofs.Names.{Names, names-first, names-room}
+use Rattle.boundary.proofs.Names.{NamesMost, names-first, names-room, nameless}
 use Rattle.boundary.proofs.Leaves.{Leaves, refused, done}
 
 -- the numbers of a file's refusals are below 9
-names-load : (bytes : List ℕ) → Names 0 (loadOf bytes .answer)
+names-load : (bytes : List ℕ) → NamesMost 0 (loadOf bytes .answer)
 unfolding loadOf
 names-load bytes = go (readOf bytes .answer) (read-among bytes)
   where
-    go : (a : Answer) → Among file a → Names 0 (onward a (loadDone (opened (readOf bytes .session))) .answer)
+    go : (a : Answer) → Among file a → NamesMost 0 (onward a (loadDone (opened (readOf bytes .session))) .answer)
     go Done h = omega arith
-    go (Refused r) h = rw (quiet r (λ t e. clash (rw e at h) refl) (λ x i e. clash (rw e at h) refl)) (omega arith)
+    go (Refused r) h = rw (nameless r h) (omega arith)
 
 module _ (file session : List ℕ) {l : Loaded} {a : Answer} (e : l ≡ loadOf file) (f : a ≡ first (l .answer ∷ roomTest sessionWords session ∷ [])) where
   load-answer : a ≡ loadAnswer file session

@@ -1,7 +1,7 @@
 -- `filecalls::load` meets its contract. Assumes nothing.
 use borrow.Author.Needs.{needs}
 use Rattle.packed.specs.Packed.{sessionWords}
-use Rattle.boundary.proofs.Leaves.{roomy}
+use Rattle.boundary.proofs.Leaves.{room-passed}
 use Rattle.filecalls.proofs.Loads.{load-refused, load-done}
 use Rattle.filecalls.proofs.load.Statement.{statement}
 use Rattle.filecalls.proofs.load.Tie as tie
@@ -31,7 +31,7 @@ pack-requires : tie.Need-pack-requires
 pack-requires c κs =
     let k = c .before in
     let t = k .before .before in
-    roomy (t .before .load .result .answer) sessionWords (t .before .before .before .before .args .session .now) (t .room .ensures) (k .enum-told .given .1) .1
+    room-passed (t .before .load .result .answer) sessionWords (t .before .before .before .before .args .session .now) (t .room .ensures) (k .enum-told .given .1) .1
 
 same-length : tie.Need-same-length
 same-length c = search needs

@@ -1,0 +1,196 @@
+-- Demand 1 of the calls: each ends in one of its outcomes. Its tests are gone through in their order, and each refusal gives its
+-- number. Assumes nothing.
+use mathlib.Core.Path.{_≡_, refl, ap, _∙_}
+use mathlib.Core.Logic.{_⊎_, inl, inr, ⊎-elim}
+use mathlib.Core.Bool.{Bool, true, false, _||_}
+use mathlib.Core.List.{List, [], _∷_, _++_}
+use Prim.Native.Nat.{ℕ, zero, suc, _+_, _*_, _-_, _≤_}
+use native.Mathlib.Omega.{arith}
+use lib.Dec.{eqb}
+use lib.ListN.{length, length-append, length-set}
+use Rattle.bits.specs.Range.{places}
+use Rattle.bits.proofs.Ranges.{length-places}
+use Rattle.bits.proofs.Logic.{clash}
+use Rattle.network.specs.declared.Session.{Session}
+use Rattle.network.specs.declared.Loaded.{Loaded}
+use Rattle.network.specs.declared.Refusal.the-variants.{BufferTooShort, InvalidState}
+use Rattle.network.specs.declared.Answer.{Answer}
+use Rattle.network.specs.declared.Answer.the-variants.{Done, Refused}
+use Rattle.network.specs.Net.{Net, Replacement, replaced}
+use Rattle.network.specs.Compatible.{compatibleCount}
+use Rattle.network.specs.Flat.{loadedNet, currentNet}
+use Rattle.network.specs.Refusals.{numberOf}
+use Rattle.network.specs.Tests.{first, member}
+use Rattle.network.specs.Load.{loadOf}
+use Rattle.network.specs.Write.{bytesOf}
+use Rattle.network.specs.Calls.{gateTest, tableTest, closedTest, harmTest, heldClosed, exchangeTests, exchangeAnswer, verdictOf, gateTables, stored, roomTest, setWords, patternSetsOf, writeOf}
+use Rattle.network.proofs.Reached.{loaded-sized}
+use Rattle.render.specs.Listing.{listingOf, listingInto}
+use Rattle.engine.proofs.Outcomes.{file}
+use Rattle.engine.proofs.Demands.{demand1}
+use Rattle.packed.specs.Packed.{packedOf, sessionWords, sessionIn, wordsTest}
+use Rattle.packed.proofs.Inverse.{packed-length}
+use Rattle.boundary.specs.Boundary.{left, tableWords, tablesWork, allTableWords, verdictWork, exchangeWork, loadAnswer, loadCall, listingCall, tablesCall, allTablesCall, patternSetsCall, hiddenCall, verdictCall, exchangeCall, writeCall}
+use Rattle.boundary.specs.Promises.{Gives, Refuses, Names, Demand1Calls}
+use Rattle.boundary.proofs.Names.{nameless}
+use Rattle.boundary.proofs.Tested.{room-then, state-then, gate-then, table-then, closed-then, harm-then, session-then, fillAnswer, fill-then, state-fill-then, words-long, words-sized}
+
+-- ## Lengths
+
+pub tables-length : (s : Session) (g : ℕ) → length (allTableWords s g) ≡ 4 * g
+tables-length s zero = refl
+tables-length s (suc g) =
+    let h = tables-length s g in
+    let n = length-append (allTableWords s g) (tableWords (gateTables s (s .n + g))) in
+    omega arith
+
+-- with one table set, the session in words takes as many of them
+stored-room : (ws : List ℕ) (r : Replacement) → wordsTest ws ≡ Done → length (packedOf (stored (sessionIn ws) r)) ≤ length ws
+stored-room ws r e =
+    let s = sessionIn ws in
+    let l = words-long ws e in
+    let z = words-sized ws e in
+    let n = packed-length (stored s r) (record {
+      words = z .words;
+      arities = z .arities;
+      slots = z .slots;
+      loads = z .loads;
+      currents = length-set (s .current) (r .signal - s .n) (r .table) ∙ z .currents;
+      opens = z .opens;
+      outs = z .outs;
+    }) in
+    omega arith
+
+-- there is room for a loaded session
+pub loaded-room : (bytes session : List ℕ) → loadOf bytes .answer ≡ Done → sessionWords ≤ length session → length (packedOf (loadOf bytes .session)) ≤ length session
+loaded-room bytes session e l =
+    let s = loadOf bytes .session in
+    let n = packed-length s (loaded-sized bytes s (ap (λ (a : Answer). record { answer = a; session = s }) e)) in
+    omega arith
+
+-- ## The calls
+
+-- it gives, or else it refuses by one of the numbers and leaves all that is lent
+abbrev Ends : (numbers given new buffer out : List ℕ) → Answer → Type 0
+Ends numbers given new buffer out a =
+    let l = left a given new buffer out in
+    Gives l new buffer given out ⊎ Refuses l numbers buffer out
+
+listing-ends : (file text out : List ℕ)
+    → Gives (listingCall file text out) (listingOf file) text (length (listingOf file) ∷ []) out ⊎ Refuses (listingCall file text out) (9 ∷ []) text out
+unfolding listingCall listingInto
+listing-ends file text out =
+    let Q : Answer → Type 0 = Ends (9 ∷ []) (length (listingOf file) ∷ []) (listingOf file) text out in
+    let short : Q (Refused BufferTooShort) = inr (9, refl, refl) in
+    room-then Q (first (listingInto file text .answer ∷ [])) 1 out short
+    (λ o. fill-then Q Done (listingOf file) text short (λ t. inl (t, o, refl)))
+
+module _ (ws : List ℕ) where
+  abbrev s : Session
+  s = sessionIn ws
+
+  abbrev N : Net
+  N = loadedNet s
+
+  tables-end : (gate : ℕ) (out : List ℕ)
+      → Gives (tablesCall ws gate out) [] [] (tableWords (gateTables s gate)) out ⊎ Refuses (tablesCall ws gate out) (9 ∷ 10 ∷ 11 ∷ []) [] out
+  unfolding tablesCall
+  tables-end gate out =
+      let Q : Answer → Type 0 = Ends (9 ∷ 10 ∷ 11 ∷ []) (tableWords (gateTables s gate)) [] [] out in
+      session-then Q ws out (tablesWork gate s) (inr (9, refl, refl)) (inr (10, refl, refl))
+      (λ v o. gate-then Q Done N gate (inr (11, refl, refl)) (inl (omega arith, o, refl)))
+
+  -- with no test of its own, and nothing new in a buffer
+  room-ends : (needed : ℕ) (given out : List ℕ) → length given ≡ needed
+      → Ends (9 ∷ 10 ∷ []) given [] [] out (first (wordsTest ws ∷ roomTest needed out ∷ []))
+  room-ends needed given out e =
+      let Q : Answer → Type 0 = Ends (9 ∷ 10 ∷ []) given [] [] out in
+      session-then Q ws out (record { room = needed; tests = []; given = given; new = [] }) (inr (9, refl, refl)) (inr (10, refl, refl))
+      (λ v o. inl (omega arith, omega arith, refl))
+
+  -- that fills a buffer
+  fills-end : (room : ℕ) (given new buffer out : List ℕ) → length given ≡ room
+      → Ends (9 ∷ 10 ∷ []) given new buffer out (first (wordsTest ws ∷ roomTest room out ∷ fillAnswer s new buffer ∷ []))
+  fills-end room given new buffer out e =
+      let Q : Answer → Type 0 = Ends (9 ∷ 10 ∷ []) given new buffer out in
+      let short : Q (Refused BufferTooShort) = inr (9, refl, refl) in
+      let bad : Q (Refused InvalidState) = inr (10, refl, refl) in
+      session-then Q ws out (record { room = room; tests = fillAnswer s new buffer ∷ []; given = given; new = new }) short bad
+      (λ v o. state-fill-then Q Done new buffer s bad short (λ b. inl (b, omega arith, refl)))
+
+  -- verdict and exchange have their tests in one: their own refusals, 9 and 10 beside them
+  abbrev Within : (Answer → Type 0) → Answer → Type 0
+  Within Q a = Q (first (a ∷ []))
+
+  verdict-ends : (r : Replacement) (out : List ℕ) → let l = verdictCall ws r out in
+      Gives l [] [] [] out ⊎ (Refuses l (9 ∷ 10 ∷ 11 ∷ 12 ∷ []) [] out ⊎ ((x : ℕ) × (i : ℕ) × Names l 14 (x ∷ i ∷ []) [] out))
+  unfolding verdictCall verdictOf
+  verdict-ends r out =
+      let Q : Answer → Type 0 = λ a. let l = left a [] [] [] out in
+      Gives l [] [] [] out ⊎ (Refuses l (9 ∷ 10 ∷ 11 ∷ 12 ∷ []) [] out ⊎ ((x : ℕ) × (i : ℕ) × Names l 14 (x ∷ i ∷ []) [] out)) in
+      let R = Within Q in
+      let M = replaced (currentNet s) (r ∷ []) in
+      let bad : Q (Refused InvalidState) = inr (inl (10, refl, refl)) in
+      session-then Q ws out (verdictWork r s) (inr (inl (9, refl, refl))) bad
+      (λ v o. state-then R (first (gateTest N (r .signal) ∷ tableTest N r ∷ harmTest N M ∷ [])) s bad
+      (λ u. gate-then R (first (tableTest N r ∷ harmTest N M ∷ [])) N (r .signal) (inr (inl (11, refl, refl)))
+      (table-then R (first (harmTest N M ∷ [])) N r (inr (inl (12, refl, refl)))
+      (harm-then R Done N M (λ x i. inr (inr (x, i, (o, refl)))) (inl (omega arith, omega arith, refl))))))
+
+  exchange-ends : (r : Replacement) (out : List ℕ) → let l = exchangeCall ws r out in
+      Gives l (packedOf (stored s r)) ws [] out ⊎ (Refuses l (9 ∷ 10 ∷ 11 ∷ 12 ∷ []) ws out ⊎ ((t : ℕ) × Names l 13 (t ∷ []) ws out))
+  unfolding exchangeCall exchangeAnswer
+  exchange-ends r out =
+      let new = packedOf (stored s r) in
+      let Q : Answer → Type 0 = λ a. let l = left a [] new ws out in
+      Gives l new ws [] out ⊎ (Refuses l (9 ∷ 10 ∷ 11 ∷ 12 ∷ []) ws out ⊎ ((t : ℕ) × Names l 13 (t ∷ []) ws out)) in
+      let R = Within Q in
+      let shut = heldClosed s (r .signal) in
+      let bad : Q (Refused InvalidState) = inr (inl (10, refl, refl)) in
+      session-then Q ws out (exchangeWork r s) (inr (inl (9, refl, refl))) bad
+      (λ v o. state-then R (first (exchangeTests N shut r)) s bad
+      (λ u. gate-then R (first (tableTest N r ∷ closedTest N shut r ∷ [])) N (r .signal) (inr (inl (11, refl, refl)))
+      (table-then R (first (closedTest N shut r ∷ [])) N r (inr (inl (12, refl, refl)))
+      (closed-then R Done N shut r (λ t. inr (inr (t, (o, refl)))) (inl (stored-room ws r v, omega arith, refl))))))
+
+-- ## A file: 1 to 8, then 9
+
+more-numbers : (x y : ℕ) (ys : List ℕ) → member x ys ≡ true → member x (ys ++ y ∷ []) ≡ true
+more-numbers x y [] e = clash e refl
+more-numbers x y (z ∷ ys) e = go (eqb z x) (more-numbers x y ys) e
+  where
+    go : (b : Bool) → (member x ys ≡ true → member x (ys ++ y ∷ []) ≡ true) → (b || member x ys) ≡ true → (b || member x (ys ++ y ∷ [])) ≡ true
+    go true f e = refl
+    go false f e = f e
+
+load-ends : (bytes session : List ℕ) → let l = loadCall bytes session in
+    Gives l (packedOf (loadOf bytes .session)) session [] [] ⊎ Refuses l (1 ∷ 2 ∷ 3 ∷ 4 ∷ 5 ∷ 6 ∷ 7 ∷ 8 ∷ 9 ∷ []) session []
+unfolding loadCall
+load-ends bytes session =
+    let Q : Answer → Type 0 = Ends (1 ∷ 2 ∷ 3 ∷ 4 ∷ 5 ∷ 6 ∷ 7 ∷ 8 ∷ 9 ∷ []) [] (packedOf (loadOf bytes .session)) session [] in
+    let room = roomTest sessionWords session in
+    let by : (a : Answer) → loadOf bytes .answer ≡ a → Q (first (a ∷ room ∷ [])) → Q (loadAnswer bytes session) = λ a e q. rw e q in
+    ⊎-elim
+    (λ d. let e = ap (λ (l : Loaded). l .answer) d in
+    by Done e (room-then Q Done sessionWords session (inr (9, refl, refl)) (λ l. inl (loaded-room bytes session e l, omega arith, refl))))
+    (λ f. by (Refused (f .0)) (ap (λ (l : Loaded). l .answer) (f .2))
+    (inr (numberOf (f .0), more-numbers (numberOf (f .0)) 9 file (f .1), rw (nameless (f .0) (f .1)))))
+    (demand1 .load bytes)
+
+-- ## All the calls
+
+pub demand1-calls : Demand1Calls
+unfolding allTablesCall patternSetsCall hiddenCall writeCall patternSetsOf writeOf
+demand1-calls = record {
+  load = load-ends;
+  listing = listing-ends;
+  tables = tables-end;
+  allTables = λ ws out. let s = sessionIn ws in room-ends ws (4 * s .m) (allTableWords s (s .m)) out (tables-length s (s .m));
+  patternSets = λ ws words. let s = sessionIn ws in fills-end ws 0 [] (setWords s (s .m)) words [] refl;
+  hidden = λ ws out. let s = sessionIn ws in
+      let count : ℕ → ℕ = λ g. compatibleCount (loadedNet s) (s .n + g) in
+      room-ends ws (s .m) (places (s .m) count) out (length-places (s .m) count);
+  write = λ ws file out. let s = sessionIn ws in fills-end ws 1 (length (bytesOf s) ∷ []) (bytesOf s) file out refl;
+  verdict = verdict-ends;
+  exchange = exchange-ends;
+}

@@ -1,0 +1,226 @@
+-- Demand 2 of the calls: what each gives where nothing refuses it, verdicts, and a network written and read again. Assumes nothing.
+use mathlib.Core.Path.{_≡_, refl, sym, ap, ap₂, _∙_}
+use mathlib.Core.Logic.{_⊎_, ⊎-elim, _↔_}
+use mathlib.Core.Bool.{true}
+use mathlib.Core.List.{List, [], _∷_}
+use Prim.Native.Nat.{ℕ, _+_, _*_, _^_, _≤_, _<_}
+use native.Mathlib.Nat.{min-le-left}
+use native.Mathlib.Omega.{arith}
+use native.Mathlib.Decide.{decLt}
+use lib.ListN.{length, getD, take, drop, length-take, List·getD-eq-default}
+use lib.Seq.{take-append-seam, getD-take, getD-drop}
+use borrow.Author.Tests.{le-ltb}
+use Rattle.bits.specs.Range.{places}
+use Rattle.bits.specs.Lists.{overwritten}
+use Rattle.bits.proofs.Ranges.{length-places}
+use Rattle.network.specs.declared.Session.{Session}
+use Rattle.network.specs.declared.Loaded.{Loaded}
+use Rattle.network.specs.declared.Refusal.the-variants.{BufferTooShort, InvalidState, Harm}
+use Rattle.network.specs.declared.Answer.{Answer}
+use Rattle.network.specs.declared.Answer.the-variants.{Done, Refused}
+use Rattle.network.specs.Bounds.{excludedWords}
+use Rattle.network.specs.Net.{Net, isGate, patterns, Replacement, replaced}
+use Rattle.network.specs.Compatible.{compatibleCount}
+use Rattle.network.specs.Flat.{loadedNet, currentNet}
+use Rattle.network.specs.Refusals.{said}
+use Rattle.network.specs.Tests.{first}
+use Rattle.network.specs.State.{stateTest}
+use Rattle.network.specs.Valid.{Shaped}
+use Rattle.network.specs.Load.{loadOf}
+use Rattle.network.specs.Write.{bytesOf}
+use Rattle.network.specs.Calls.{gateTest, tableTest, harmTest, verdictOf, gateTables, filled, roomTest, setWords, patternSetsOf, writeOf}
+use Rattle.network.specs.Sessions.{NoHarm, FirstHarm}
+use Rattle.network.proofs.TestLaws.{alone, clear-i}
+use Rattle.network.proofs.Valid.{state-e}
+use Rattle.network.proofs.Reached.{loaded-sized}
+use Rattle.network.proofs.Harm.{harm-none, harm-at}
+use Rattle.render.specs.Listing.{listingOf, listingInto}
+use Rattle.roundtrip.proofs.RoundTrip.{round-trip}
+use Rattle.engine.proofs.Outcomes.{harm-only}
+use Rattle.packed.specs.Packed.{packedOf, excludedStart, sessionWords, part, sessionIn, wordsTest}
+use Rattle.packed.proofs.Inverse.{packed-back}
+use Rattle.boundary.specs.Boundary.{Left, numberFor, left, tableWords, allTableWords, writeWork, loadCall, listingCall, tablesCall, allTablesCall, patternSetsCall, hiddenCall, verdictCall, writeCall}
+use Rattle.boundary.specs.Promises.{Gives, Words, Asks, Demand2Calls}
+use Rattle.boundary.proofs.Tested.{room-i, session-then, fillAnswer, state-fill-then, words-state, words-sized}
+use Rattle.boundary.proofs.Demand1Calls.{tables-length, loaded-room}
+
+-- ## Where no test refuses
+
+gives : {a : Answer} (given new buffer out : List ℕ) → a ≡ Done → length new ≤ length buffer → length given ≤ length out
+    → Gives (left a given new buffer out) new buffer given out
+gives given new buffer out e b o = (b, o, rw e)
+
+load-gives : (file session : List ℕ) → loadOf file .answer ≡ Done → sessionWords ≤ length session
+    → Gives (loadCall file session) (packedOf (loadOf file .session)) session [] []
+unfolding loadCall
+load-gives file session e l =
+    gives [] (packedOf (loadOf file .session)) session [] (clear-i (loadOf file .answer ∷ roomTest sessionWords session ∷ []) (e, (room-i sessionWords session l, tt)))
+    (loaded-room file session e l) (omega arith)
+
+listing-gives : (file text out : List ℕ) → 1 ≤ length out → length (listingOf file) ≤ length text
+    → Gives (listingCall file text out) (listingOf file) text (length (listingOf file) ∷ []) out
+unfolding listingCall listingInto
+listing-gives file text out o t =
+    let a : listingInto file text .answer ≡ Done = rw (le-ltb (length text) (length (listingOf file)) t) in
+    gives (length (listingOf file) ∷ []) (listingOf file) text out (clear-i (roomTest 1 out ∷ listingInto file text .answer ∷ []) (room-i 1 out o, (a, tt))) t o
+
+module _ (ws : List ℕ) (v : wordsTest ws ≡ Done) where
+  abbrev s : Session
+  s = sessionIn ws
+
+  tables-given : (gate : ℕ) (out : List ℕ) → isGate (loadedNet s) gate ≡ true → 4 ≤ length out
+      → Gives (tablesCall ws gate out) [] [] (tableWords (gateTables s gate)) out
+  unfolding tablesCall gateTest
+  tables-given gate out g o =
+      let a : gateTest (loadedNet s) gate ≡ Done = rw g in
+      gives (tableWords (gateTables s gate)) [] [] out (clear-i (wordsTest ws ∷ roomTest 4 out ∷ gateTest (loadedNet s) gate ∷ []) (v, (room-i 4 out o, (a, tt))))
+      (omega arith) o
+
+  -- with no test of its own
+  room-given : (needed : ℕ) (given out : List ℕ) → length given ≡ needed → needed ≤ length out
+      → Gives (left (first (wordsTest ws ∷ roomTest needed out ∷ [])) given [] [] out) [] [] given out
+  room-given needed given out e o =
+      gives given [] [] out (clear-i (wordsTest ws ∷ roomTest needed out ∷ []) (v, (room-i needed out o, tt))) (omega arith) (omega arith)
+
+  -- into a buffer
+  fill-given : (room : ℕ) (given new buffer out : List ℕ) → length given ≡ room → room ≤ length out → length new ≤ length buffer
+      → Gives (left (first (wordsTest ws ∷ roomTest room out ∷ fillAnswer s new buffer ∷ [])) given new buffer out) new buffer given out
+  fill-given room given new buffer out e o b =
+      let a : fillAnswer s new buffer ≡ Done =
+      ap (λ (x : Answer). filled x new buffer .answer)
+      (clear-i (stateTest s ∷ roomTest (length new) buffer ∷ []) (words-state ws v, (room-i (length new) buffer b, tt))) in
+      gives given new buffer out (clear-i (wordsTest ws ∷ roomTest room out ∷ fillAnswer s new buffer ∷ []) (v, (room-i room out o, (a, tt)))) b (omega arith)
+
+write-gives : (ws file out : List ℕ) → wordsTest ws ≡ Done → 1 ≤ length out → length (bytesOf (sessionIn ws)) ≤ length file
+    → Gives (writeCall ws file out) (bytesOf (sessionIn ws)) file (length (bytesOf (sessionIn ws)) ∷ []) out
+unfolding writeCall writeOf
+write-gives ws file out v o b = fill-given ws v 1 (length (bytesOf (sessionIn ws)) ∷ []) (bytesOf (sessionIn ws)) file out refl o b
+
+-- ## Verdicts
+
+module _ (ws : List ℕ) (r : Replacement) (out : List ℕ) (j : Asks ws r) (o : 2 ≤ length out) where
+  abbrev L : Net
+  L = loadedNet (sessionIn ws)
+
+  abbrev M : Net
+  M = replaced (currentNet (sessionIn ws)) (r ∷ [])
+
+  -- the search for harm decides
+  verdict-is : verdictCall ws r out ≡ left (harmTest L M) [] [] [] out
+  unfolding verdictCall verdictOf gateTest tableTest
+  verdict-is =
+      let h = harmTest L M in
+      let a : first (wordsTest ws ∷ roomTest 2 out ∷ verdictOf (sessionIn ws) r ∷ []) ≡ h =
+      rw (j .0, le-ltb (length out) 2 o, words-state ws (j .0), j .1, j .2) (sym (alone h ∙ alone (first (h ∷ [])))) in
+      ap (λ (x : Answer). left x [] [] [] out) a
+
+  -- what a call that gives nothing leaves, by what it says
+  abbrev leftBy : List ℕ → Left
+  leftBy [] = record { number = 0; buffer = []; out = out }
+  leftBy (n ∷ values) = record { number = n; buffer = []; out = overwritten values out }
+
+  verdict-says : (a : Answer) → left a [] [] [] out ≡ leftBy (said a)
+  verdict-says Done = refl
+  verdict-says (Refused r) = refl
+
+  -- and nothing else leaves that
+  module _ (a : Answer) (only : (a ≡ Done) ⊎ ((y : ℕ) × (k : ℕ) × (a ≡ Refused (Harm y k)))) where
+    says-harm : (x i : ℕ) → left a [] [] [] out ≡ leftBy (14 ∷ x ∷ i ∷ []) → said a ≡ 14 ∷ x ∷ i ∷ []
+    says-harm x i e =
+        ⊎-elim
+        (λ d.
+        let n : _≡_ {A = ℕ} 0 14 = sym (ap numberFor d) ∙ ap (λ (l : Left). l .number) e in
+        let z : ⊥ = omega arith in
+        absurd z)
+        (λ f.
+        let q = sym (ap (λ (b : Answer). left b [] [] [] out) (f .2)) ∙ e in
+        ap said (f .2) ∙ ap₂ (λ (y k : ℕ). 14 ∷ y ∷ k ∷ []) (ap (λ (l : Left). getD (l .out) 0 0) q) (ap (λ (l : Left). getD (l .out) 1 0) q)) only
+
+    says-nothing : left a [] [] [] out ≡ leftBy [] → said a ≡ []
+    says-nothing e =
+        ⊎-elim (λ d. ap said d)
+        (λ f.
+        let n : _≡_ {A = ℕ} 14 0 = sym (ap numberFor (f .2)) ∙ ap (λ (l : Left). l .number) e in
+        let z : ⊥ = omega arith in
+        absurd z) only
+
+  shown-is : (x i : ℕ) → (verdictCall ws r out ≡ record { number = 14; buffer = []; out = overwritten (x ∷ i ∷ []) out }) ↔ FirstHarm L M x i
+  shown-is x i = (
+    λ e. harm-at L M x i .0 (says-harm (harmTest L M) (harm-only L M) x i (sym verdict-is ∙ e)),
+    λ f. verdict-is ∙ verdict-says (harmTest L M) ∙ ap leftBy (harm-at L M x i .1 f),
+  )
+
+  harmless-is : (verdictCall ws r out ≡ record { number = 0; buffer = []; out = out }) ↔ NoHarm L M (patterns L)
+  harmless-is = (
+    λ e. harm-none L M .0 (says-nothing (harmTest L M) (harm-only L M) (sym verdict-is ∙ e)),
+    λ f. verdict-is ∙ verdict-says (harmTest L M) ∙ ap leftBy (harm-none L M .1 f),
+  )
+
+-- ## A network written and read again
+
+part-wide : (ws : List ℕ) (at c : ℕ) → Words ws → Words (part ws at c)
+part-wide ws at c h w = by (decLt w c)
+  where
+    by : Dec (w < c) → getD (part ws at c) w 0 < 2 ^ 64
+    by (yes y) = rw (getD-take c (drop at ws) w 0 y, getD-drop at ws w 0) (h (at + w))
+    by (no y) =
+        let k = length-take c (drop at ws) in
+        let m = min-le-left c (length (drop at ws)) in
+        rw (List·getD-eq-default (part ws at c) 0 {n = w} (omega arith)) (omega arith)
+
+words-shaped : (ws : List ℕ) → Words ws → wordsTest ws ≡ Done → Shaped (sessionIn ws)
+unfolding sessionIn
+words-shaped ws h v = record { sized = words-sized ws v; wide = part-wide ws excludedStart excludedWords h }
+
+-- 0 shows that no test refused
+write-passed : (ws file out : List ℕ) → writeCall ws file out .number ≡ 0
+    → (wordsTest ws ≡ Done) × (1 ≤ length out) × (length (bytesOf (sessionIn ws)) ≤ length file)
+unfolding writeCall writeOf
+write-passed ws file out =
+    let s = sessionIn ws in
+    let Q : Answer → Type 0 = λ a. numberFor a ≡ 0 → (wordsTest ws ≡ Done) × (1 ≤ length out) × (length (bytesOf s) ≤ length file) in
+    let short : Q (Refused BufferTooShort) = λ e. (let z : ⊥ = omega arith in absurd z) in
+    let bad : Q (Refused InvalidState) = λ e. (let z : ⊥ = omega arith in absurd z) in
+    session-then Q ws out (writeWork file s) short bad (λ v o. state-fill-then Q Done (bytesOf s) file s bad short (λ b e. (v, o, b)))
+
+module _ (ws file out session : List ℕ) (h : Words ws) (e : writeCall ws file out .number ≡ 0) (room : sessionWords ≤ length session) where
+  abbrev again : Left
+  again =
+      let w = writeCall ws file out in
+      loadCall (take (getD (w .out) 0 0) (w .buffer)) session
+
+  round-trips : (again .number ≡ 0) × (loadedNet (sessionIn (again .buffer)) ≡ currentNet (sessionIn ws)) × (currentNet (sessionIn (again .buffer)) ≡ currentNet (sessionIn ws))
+  round-trips =
+      let s = sessionIn ws in
+      let bytes = bytesOf s in
+      let p = write-passed ws file out e in
+      let back = round-trip s (words-shaped ws h (p .0)) (state-e s (words-state ws (p .0))) .1 in
+      let t = back .session in
+      let read : take (getD (writeCall ws file out .out) 0 0) (writeCall ws file out .buffer) ≡ bytes =
+      ap (λ (w : Left). take (getD (w .out) 0 0) (w .buffer)) (write-gives ws file out (p .0) (p .1) (p .2) .2) ∙ take-append-seam bytes (drop (length bytes) file) in
+      let loads : loadCall bytes session ≡ record { number = 0; buffer = overwritten (packedOf t) session; out = [] } =
+      load-gives bytes session (ap (λ (l : Loaded). l .answer) (back .reads)) room .2
+      ∙ ap (λ (l : Loaded). record { number = 0; buffer = overwritten (packedOf (l .session)) session; out = [] }) (back .reads) in
+      let is : again ≡ record { number = 0; buffer = overwritten (packedOf t) session; out = [] } = ap (λ (b : List ℕ). loadCall b session) read ∙ loads in
+      let held : sessionIn (again .buffer) ≡ t =
+      ap (λ (l : Left). sessionIn (l .buffer)) is ∙ packed-back t (drop (length (packedOf t)) session) (loaded-sized bytes t (back .reads)) in
+      (ap (λ (l : Left). l .number) is, ap loadedNet held ∙ back .loaded, ap currentNet held ∙ back .current)
+
+-- ## All the calls
+
+pub demand2-calls : Demand2Calls
+unfolding allTablesCall patternSetsCall hiddenCall patternSetsOf
+demand2-calls = record {
+  load = load-gives;
+  listing = listing-gives;
+  tables = λ ws gate out v. tables-given ws v gate out;
+  allTables = λ ws out v. let s = sessionIn ws in room-given ws v (4 * s .m) (allTableWords s (s .m)) out (tables-length s (s .m));
+  patternSets = λ ws words v. let s = sessionIn ws in fill-given ws v 0 [] (setWords s (s .m)) words [] refl (omega arith);
+  hidden = λ ws out v. let s = sessionIn ws in
+      let count : ℕ → ℕ = λ g. compatibleCount (loadedNet s) (s .n + g) in
+      room-given ws v (s .m) (places (s .m) count) out (length-places (s .m) count);
+  write = write-gives;
+  shown = λ ws r out x i j o. shown-is ws r out j o x i;
+  harmless = harmless-is;
+  roundTrip = round-trips;
+}

@@ -1,0 +1,157 @@
+-- The three demands of the calls for other languages, on any lent words and bytes. Assumes nothing.
+use mathlib.Core.Path.{_≡_}
+use mathlib.Core.Logic.{_⊎_, _↔_, _≢_}
+use mathlib.Core.Bool.{true, false, cond}
+use mathlib.Core.List.{List, [], _∷_, _++_, map}
+use Prim.Native.Nat.{ℕ, _+_, _*_, _^_, _<_, _≤_}
+use lib.Dec.{ltb}
+use lib.ListN.{length, getD, take, drop}
+use Rattle.bits.specs.Range.{places}
+use Rattle.bits.specs.Lists.{overwritten}
+use Rattle.network.specs.declared.Session.{Session}
+use Rattle.network.specs.declared.Answer.{Answer}
+use Rattle.network.specs.declared.Answer.the-variants.{Done}
+use Rattle.network.specs.Net.{Net, isGate, patterns, excludedFor, output, Replacement, replaced}
+use Rattle.network.specs.Compatible.{compatibleCount}
+use Rattle.network.specs.Flat.{loadedNet, currentNet}
+use Rattle.network.specs.Refusals.{said}
+use Rattle.network.specs.Tests.{member, first}
+use Rattle.network.specs.Load.{loadOf, loadDone}
+use Rattle.network.specs.Write.{bytesOf}
+use Rattle.network.specs.Calls.{fits, gateTables, stored, roomTest, setWords}
+use Rattle.network.specs.Sessions.{after, answerBy, NoHarm, FirstHarm, Demand3}
+use Rattle.render.specs.Listing.{listingOf}
+use Rattle.packed.specs.Packed.{packedOf, sessionWords, sessionIn, wordsTest}
+use Rattle.boundary.specs.Boundary.{Left, tableWords, allTableWords, loadCall, listingCall, tablesCall, allTablesCall, patternSetsCall, hiddenCall, verdictCall, exchangeCall, writeCall}
+
+-- ## Demand 1
+
+-- 0: `new` stands at the start of the buffer and `given` at the start of `out`, and there was room for both
+abbrev pub Gives : Left → (new buffer given out : List ℕ) → Type 0
+Gives l new buffer given out =
+    (length new ≤ length buffer) × (length given ≤ length out) × (l ≡ record { number = 0; buffer = overwritten new buffer; out = overwritten given out })
+
+-- one of the numbers, and all that is lent is as it was
+abbrev pub Refuses : Left → (numbers buffer out : List ℕ) → Type 0
+Refuses l numbers buffer out = (n : ℕ) × (member n numbers ≡ true) × (l ≡ record { number = n; buffer = buffer; out = out })
+
+-- 13 or 14: what it names stands at the start of `out`, and there was room for it; all else is as it was
+abbrev pub Names : Left → (n : ℕ) (values buffer out : List ℕ) → Type 0
+Names l n values buffer out = (length values ≤ length out) × (l ≡ record { number = n; buffer = buffer; out = overwritten values out })
+
+pub record Demand1Calls : Type 0 where
+  pub load : (file session : List ℕ)
+      → Gives (loadCall file session) (packedOf (loadOf file .session)) session [] []
+      ⊎ Refuses (loadCall file session) (1 ∷ 2 ∷ 3 ∷ 4 ∷ 5 ∷ 6 ∷ 7 ∷ 8 ∷ 9 ∷ []) session []
+  pub listing : (file text out : List ℕ)
+      → Gives (listingCall file text out) (listingOf file) text (length (listingOf file) ∷ []) out ⊎ Refuses (listingCall file text out) (9 ∷ []) text out
+  pub tables : (ws : List ℕ) (gate : ℕ) (out : List ℕ)
+      → Gives (tablesCall ws gate out) [] [] (tableWords (gateTables (sessionIn ws) gate)) out ⊎ Refuses (tablesCall ws gate out) (9 ∷ 10 ∷ 11 ∷ []) [] out
+  pub allTables : (ws out : List ℕ)
+      → Gives (allTablesCall ws out) [] [] (allTableWords (sessionIn ws) (sessionIn ws .m)) out ⊎ Refuses (allTablesCall ws out) (9 ∷ 10 ∷ []) [] out
+  pub patternSets : (ws words : List ℕ)
+      → Gives (patternSetsCall ws words) (setWords (sessionIn ws) (sessionIn ws .m)) words [] [] ⊎ Refuses (patternSetsCall ws words) (9 ∷ 10 ∷ []) words []
+  pub hidden : (ws out : List ℕ)
+      → Gives (hiddenCall ws out) [] [] (places (sessionIn ws .m) (λ g. compatibleCount (loadedNet (sessionIn ws)) (sessionIn ws .n + g))) out
+      ⊎ Refuses (hiddenCall ws out) (9 ∷ 10 ∷ []) [] out
+  pub write : (ws file out : List ℕ)
+      → Gives (writeCall ws file out) (bytesOf (sessionIn ws)) file (length (bytesOf (sessionIn ws)) ∷ []) out ⊎ Refuses (writeCall ws file out) (9 ∷ 10 ∷ []) file out
+  pub verdict : (ws : List ℕ) (r : Replacement) (out : List ℕ)
+      → Gives (verdictCall ws r out) [] [] [] out
+      ⊎ (Refuses (verdictCall ws r out) (9 ∷ 10 ∷ 11 ∷ 12 ∷ []) [] out ⊎ ((x : ℕ) × (i : ℕ) × Names (verdictCall ws r out) 14 (x ∷ i ∷ []) [] out))
+  pub exchange : (ws : List ℕ) (r : Replacement) (out : List ℕ)
+      → Gives (exchangeCall ws r out) (packedOf (stored (sessionIn ws) r)) ws [] out
+      ⊎ (Refuses (exchangeCall ws r out) (9 ∷ 10 ∷ 11 ∷ 12 ∷ []) ws out ⊎ ((t : ℕ) × Names (exchangeCall ws r out) 13 (t ∷ []) ws out))
+
+-- ## Demand 2
+
+abbrev pub Words : List ℕ → Type 0
+Words ws = (i : ℕ) → getD ws i 0 < 2 ^ 64
+
+-- the words hold a session, and 11 and 12 do not come
+abbrev pub Asks : List ℕ → Replacement → Type 0
+Asks ws r = (wordsTest ws ≡ Done) × (isGate (loadedNet (sessionIn ws)) (r .signal) ≡ true) × (fits (loadedNet (sessionIn ws)) r ≡ true)
+
+pub record Demand2Calls : Type 0 where
+  pub load : (file session : List ℕ) → loadOf file .answer ≡ Done → sessionWords ≤ length session
+      → Gives (loadCall file session) (packedOf (loadOf file .session)) session [] []
+  pub listing : (file text out : List ℕ) → 1 ≤ length out → length (listingOf file) ≤ length text
+      → Gives (listingCall file text out) (listingOf file) text (length (listingOf file) ∷ []) out
+  pub tables : (ws : List ℕ) (gate : ℕ) (out : List ℕ) → wordsTest ws ≡ Done → isGate (loadedNet (sessionIn ws)) gate ≡ true → 4 ≤ length out
+      → Gives (tablesCall ws gate out) [] [] (tableWords (gateTables (sessionIn ws) gate)) out
+  pub allTables : (ws out : List ℕ) → wordsTest ws ≡ Done → 4 * sessionIn ws .m ≤ length out
+      → Gives (allTablesCall ws out) [] [] (allTableWords (sessionIn ws) (sessionIn ws .m)) out
+  pub patternSets : (ws words : List ℕ) → wordsTest ws ≡ Done → length (setWords (sessionIn ws) (sessionIn ws .m)) ≤ length words
+      → Gives (patternSetsCall ws words) (setWords (sessionIn ws) (sessionIn ws .m)) words [] []
+  pub hidden : (ws out : List ℕ) → wordsTest ws ≡ Done → sessionIn ws .m ≤ length out
+      → Gives (hiddenCall ws out) [] [] (places (sessionIn ws .m) (λ g. compatibleCount (loadedNet (sessionIn ws)) (sessionIn ws .n + g))) out
+  pub write : (ws file out : List ℕ) → wordsTest ws ≡ Done → 1 ≤ length out → length (bytesOf (sessionIn ws)) ≤ length file
+      → Gives (writeCall ws file out) (bytesOf (sessionIn ws)) file (length (bytesOf (sessionIn ws)) ∷ []) out
+  pub shown : (ws : List ℕ) (r : Replacement) (out : List ℕ) (x i : ℕ) → Asks ws r → 2 ≤ length out
+      → (verdictCall ws r out ≡ record { number = 14; buffer = []; out = overwritten (x ∷ i ∷ []) out })
+      ↔ FirstHarm (loadedNet (sessionIn ws)) (replaced (currentNet (sessionIn ws)) (r ∷ [])) x i
+  pub harmless : (ws : List ℕ) (r : Replacement) (out : List ℕ) → Asks ws r → 2 ≤ length out
+      → (verdictCall ws r out ≡ record { number = 0; buffer = []; out = out })
+      ↔ NoHarm (loadedNet (sessionIn ws)) (replaced (currentNet (sessionIn ws)) (r ∷ [])) (patterns (loadedNet (sessionIn ws)))
+  pub roundTrip : (ws file out session : List ℕ) → Words ws → writeCall ws file out .number ≡ 0 → sessionWords ≤ length session
+      → let w = writeCall ws file out in
+      let l = loadCall (take (getD (w .out) 0 0) (w .buffer)) session in
+      (l .number ≡ 0) × (loadedNet (sessionIn (l .buffer)) ≡ currentNet (sessionIn ws)) × (currentNet (sessionIn (l .buffer)) ≡ currentNet (sessionIn ws))
+
+-- ## Demand 3
+
+-- an exchange call: what is asked, and the words lent as `out`
+pub record Asked : Type 0 where
+  pub exchange : Replacement
+  pub out : List ℕ
+
+-- each gets the words that the one before left
+abbrev pub wordsAfter : List ℕ → List Asked → List ℕ
+wordsAfter ws [] = ws
+wordsAfter ws (a ∷ list) = wordsAfter (exchangeCall ws (a .exchange) (a .out) .buffer) list
+
+-- number and `out` of each
+abbrev pub heard : List ℕ → List Asked → List (ℕ × List ℕ)
+heard ws [] = []
+heard ws (a ∷ list) = let l = exchangeCall ws (a .exchange) (a .out) in (l .number, l .out) ∷ heard (l .buffer) list
+
+-- 9 where `out` has no word, else what the loaded network alone says
+abbrev pub askedAnswer : Net → Asked → Answer
+askedAnswer N a = first (roomTest 1 (a .out) ∷ answerBy N (a .exchange) ∷ [])
+
+-- 01's number, 0 where nothing is refused; what the refusal names stands at the start of `out`
+abbrev pub askedLeft : Net → Asked → ℕ × List ℕ
+askedLeft N a = (getD (said (askedAnswer N a)) 0 0, overwritten (drop 1 (said (askedAnswer N a))) (a .out))
+
+-- the exchanges that 9 did not refuse
+abbrev pub roomy : List Asked → List Replacement
+roomy [] = []
+roomy (a ∷ list) = cond (ltb (length (a .out)) 1) [] (a .exchange ∷ []) ++ roomy list
+
+-- the words hold s, and no call refuses them with 10, or with 9 for their number
+pub record Holds (ws : List ℕ) (s : Session) : Type 0 where
+  pub session : sessionIn ws ≡ s
+  pub passes : wordsTest ws ≡ Done
+
+pub record Demand3Calls (ws : List ℕ) (s : Session) (list : List Asked) : Type 0 where
+  pub answered : heard ws list ≡ map (askedLeft (loadedNet s)) list
+  -- the words behind a session stay
+  pub words : wordsAfter ws list ≡ overwritten (packedOf (after s (roomy list))) ws
+  pub long : length (wordsAfter ws list) ≡ length ws
+  pub holds : Holds (wordsAfter ws list) (after s (roomy list))
+  pub outputs : (x i : ℕ) → x < patterns (loadedNet s) → i < s .p → excludedFor (loadedNet s) i x ≡ false
+      → output (currentNet (sessionIn (wordsAfter ws list))) x i ≡ output (loadedNet s) x i
+  pub swap : (before behind : List Asked) (a b : Asked) → list ≡ before ++ a ∷ b ∷ behind → a .exchange .signal ≢ b .exchange .signal
+      → wordsAfter ws (before ++ b ∷ a ∷ behind) ≡ wordsAfter ws list
+
+-- of every file that loads, into every buffer
+abbrev pub Demand3OfCalls : Type 0
+Demand3OfCalls = (file session : List ℕ) (list : List Asked) → loadCall file session .number ≡ 0
+    → let s = loadOf file .session in let ws = loadCall file session .buffer in
+    (loadOf file ≡ loadDone s) × Holds ws s × Demand3 s (roomy list) × Demand3Calls ws s list
+
+-- after a load and any list of exchange calls, what an exchange call accepts a verdict call finds harmless
+abbrev pub AcceptedHarmlessCalls : Type 0
+AcceptedHarmlessCalls = (file session : List ℕ) (list : List Asked) (r : Replacement) (o v : List ℕ) → loadCall file session .number ≡ 0 → 2 ≤ length v
+    → let ws = wordsAfter (loadCall file session .buffer) list in
+    exchangeCall ws r o .number ≡ 0 → verdictCall ws r v .number ≡ 0
