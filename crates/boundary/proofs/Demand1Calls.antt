@@ -21,9 +21,11 @@ use Rattle.network.specs.Compatible.{compatibleCount}
 use Rattle.network.specs.Flat.{loadedNet, currentNet}
 use Rattle.network.specs.Refusals.{numberOf}
 use Rattle.network.specs.Tests.{first, member}
+use Rattle.network.specs.State.{stateTest}
 use Rattle.network.specs.Load.{loadOf}
 use Rattle.network.specs.Write.{bytesOf}
-use Rattle.network.specs.Calls.{gateTest, tableTest, closedTest, harmTest, heldClosed, exchangeTests, exchangeAnswer, verdictOf, gateTables, stored, roomTest, setWords, patternSetsOf, writeOf}
+use Rattle.network.specs.Calls.{gateTest, tableTest, harmTest, heldClosed, exchangeTests, exchangeAnswer, verdictOf, gateTables, stored, roomTest, setWords, patternSetsOf, writeOf}
+use Rattle.network.proofs.ByTest.{Before, room-by, state-by, gate-by, table-by, closed-by, harm-by, first-by}
 use Rattle.network.proofs.Reached.{loaded-sized}
 use Rattle.render.specs.Listing.{listingOf, listingInto}
 use Rattle.engine.proofs.Outcomes.{file}
@@ -31,9 +33,9 @@ use Rattle.engine.proofs.Demands.{demand1}
 use Rattle.packed.specs.Packed.{packedOf, sessionWords, sessionIn, wordsTest}
 use Rattle.packed.proofs.Inverse.{packed-length}
 use Rattle.boundary.specs.Boundary.{left, tableWords, tablesWork, allTableWords, verdictWork, exchangeWork, loadAnswer, loadCall, listingCall, tablesCall, allTablesCall, patternSetsCall, hiddenCall, verdictCall, exchangeCall, writeCall}
-use Rattle.boundary.specs.Promises.{Gives, Refuses, Names, Demand1Calls}
+use Rattle.boundary.specs.Promises.{Gives, Refuses, Names, Ends, Demand1Calls}
 use Rattle.boundary.proofs.Names.{nameless}
-use Rattle.boundary.proofs.Tested.{room-then, state-then, gate-then, table-then, closed-then, harm-then, session-then, fillAnswer, fill-then, state-fill-then, words-long, words-sized}
+use Rattle.boundary.proofs.Tested.{session-by, fillAnswer, Filling, fill-by, words-long, words-sized}
 
 -- ## Lengths
 
@@ -43,6 +45,13 @@ tables-length s (suc g) =
     let h = tables-length s g in
     let n = length-append (allTableWords s g) (tableWords (gateTables s (s .n + g))) in
     omega arith
+
+-- the number of patterns in H of each gate
+abbrev pub hiddenCounts : Session → List ℕ
+hiddenCounts s = places (s .m) (λ g. compatibleCount (loadedNet s) (s .n + g))
+
+pub hidden-length : (s : Session) → length (hiddenCounts s) ≡ s .m
+hidden-length s = length-places (s .m) (λ g. compatibleCount (loadedNet s) (s .n + g))
 
 -- with one table set, the session in words takes as many of them
 stored-room : (ws : List ℕ) (r : Replacement) → wordsTest ws ≡ Done → length (packedOf (stored (sessionIn ws) r)) ≤ length ws
@@ -70,20 +79,18 @@ loaded-room bytes session e l =
 
 -- ## The calls
 
--- it gives, or else it refuses by one of the numbers and leaves all that is lent
-abbrev Ends : (numbers given new buffer out : List ℕ) → Answer → Type 0
-Ends numbers given new buffer out a =
-    let l = left a given new buffer out in
-    Gives l new buffer given out ⊎ Refuses l numbers buffer out
+-- what a call with this answer leaves
+abbrev EndsBy : (new buffer given out numbers : List ℕ) → Answer → Type 0
+EndsBy new buffer given out numbers a = Ends (left a given new buffer out) new buffer given out numbers
 
-listing-ends : (file text out : List ℕ)
-    → Gives (listingCall file text out) (listingOf file) text (length (listingOf file) ∷ []) out ⊎ Refuses (listingCall file text out) (9 ∷ []) text out
+listing-ends : (file text out : List ℕ) → Ends (listingCall file text out) (listingOf file) text (length (listingOf file) ∷ []) out (9 ∷ [])
 unfolding listingCall listingInto
 listing-ends file text out =
-    let Q : Answer → Type 0 = Ends (9 ∷ []) (length (listingOf file) ∷ []) (listingOf file) text out in
+    let new = listingOf file in
+    let Q : Answer → Type 0 = EndsBy new text (length new ∷ []) out (9 ∷ []) in
     let short : Q (Refused BufferTooShort) = inr (9, refl, refl) in
-    room-then Q (first (listingInto file text .answer ∷ [])) 1 out short
-    (λ o. fill-then Q Done (listingOf file) text short (λ t. inl (t, o, refl)))
+    room-by (Before Q (first (listingInto file text .answer ∷ []))) 1 out short
+    (λ o. room-by (Filling (Before Q Done) new text) (length new) text short (λ t. inl (t, o, refl)))
 
 module _ (ws : List ℕ) where
   abbrev s : Session
@@ -92,50 +99,49 @@ module _ (ws : List ℕ) where
   abbrev N : Net
   N = loadedNet s
 
-  tables-end : (gate : ℕ) (out : List ℕ)
-      → Gives (tablesCall ws gate out) [] [] (tableWords (gateTables s gate)) out ⊎ Refuses (tablesCall ws gate out) (9 ∷ 10 ∷ 11 ∷ []) [] out
+  tables-end : (gate : ℕ) (out : List ℕ) → Ends (tablesCall ws gate out) [] [] (tableWords (gateTables s gate)) out (9 ∷ 10 ∷ 11 ∷ [])
   unfolding tablesCall
   tables-end gate out =
-      let Q : Answer → Type 0 = Ends (9 ∷ 10 ∷ 11 ∷ []) (tableWords (gateTables s gate)) [] [] out in
-      session-then Q ws out (tablesWork gate s) (inr (9, refl, refl)) (inr (10, refl, refl))
-      (λ v o. gate-then Q Done N gate (inr (11, refl, refl)) (inl (omega arith, o, refl)))
+      let Q : Answer → Type 0 = EndsBy [] [] (tableWords (gateTables s gate)) out (9 ∷ 10 ∷ 11 ∷ []) in
+      session-by Q ws out (tablesWork gate s) (inr (9, refl, refl)) (inr (10, refl, refl))
+      (λ v o. gate-by (Before Q Done) N gate (inr (11, refl, refl)) (λ w. inl (omega arith, o, refl)))
 
   -- with no test of its own, and nothing new in a buffer
   room-ends : (needed : ℕ) (given out : List ℕ) → length given ≡ needed
-      → Ends (9 ∷ 10 ∷ []) given [] [] out (first (wordsTest ws ∷ roomTest needed out ∷ []))
+      → EndsBy [] [] given out (9 ∷ 10 ∷ []) (first (wordsTest ws ∷ roomTest needed out ∷ []))
   room-ends needed given out e =
-      let Q : Answer → Type 0 = Ends (9 ∷ 10 ∷ []) given [] [] out in
-      session-then Q ws out (record { room = needed; tests = []; given = given; new = [] }) (inr (9, refl, refl)) (inr (10, refl, refl))
-      (λ v o. inl (omega arith, omega arith, refl))
+      session-by (EndsBy [] [] given out (9 ∷ 10 ∷ [])) ws out (record { room = needed; tests = []; given = given; new = [] })
+      (inr (9, refl, refl)) (inr (10, refl, refl)) (λ v o. inl (omega arith, omega arith, refl))
 
   -- that fills a buffer
   fills-end : (room : ℕ) (given new buffer out : List ℕ) → length given ≡ room
-      → Ends (9 ∷ 10 ∷ []) given new buffer out (first (wordsTest ws ∷ roomTest room out ∷ fillAnswer s new buffer ∷ []))
+      → EndsBy new buffer given out (9 ∷ 10 ∷ []) (first (wordsTest ws ∷ roomTest room out ∷ fillAnswer s new buffer ∷ []))
   fills-end room given new buffer out e =
-      let Q : Answer → Type 0 = Ends (9 ∷ 10 ∷ []) given new buffer out in
+      let Q : Answer → Type 0 = EndsBy new buffer given out (9 ∷ 10 ∷ []) in
       let short : Q (Refused BufferTooShort) = inr (9, refl, refl) in
       let bad : Q (Refused InvalidState) = inr (10, refl, refl) in
-      session-then Q ws out (record { room = room; tests = fillAnswer s new buffer ∷ []; given = given; new = new }) short bad
-      (λ v o. state-fill-then Q Done new buffer s bad short (λ b. inl (b, omega arith, refl)))
+      session-by Q ws out (record { room = room; tests = fillAnswer s new buffer ∷ []; given = given; new = new }) short bad
+      (λ v o. fill-by (Before Q Done) new buffer s bad short (λ b. inl (b, omega arith, refl)))
 
-  -- verdict and exchange have their tests in one: their own refusals, 9 and 10 beside them
-  abbrev Within : (Answer → Type 0) → Answer → Type 0
-  Within Q a = Q (first (a ∷ []))
-
+  -- verdict and exchange have their tests in one
   verdict-ends : (r : Replacement) (out : List ℕ) → let l = verdictCall ws r out in
       Gives l [] [] [] out ⊎ (Refuses l (9 ∷ 10 ∷ 11 ∷ 12 ∷ []) [] out ⊎ ((x : ℕ) × (i : ℕ) × Names l 14 (x ∷ i ∷ []) [] out))
   unfolding verdictCall verdictOf
   verdict-ends r out =
       let Q : Answer → Type 0 = λ a. let l = left a [] [] [] out in
       Gives l [] [] [] out ⊎ (Refuses l (9 ∷ 10 ∷ 11 ∷ 12 ∷ []) [] out ⊎ ((x : ℕ) × (i : ℕ) × Names l 14 (x ∷ i ∷ []) [] out)) in
-      let R = Within Q in
+      let R = Before Q Done in
       let M = replaced (currentNet s) (r ∷ []) in
+      let ok : Q Done = inl (omega arith, omega arith, refl) in
       let bad : Q (Refused InvalidState) = inr (inl (10, refl, refl)) in
-      session-then Q ws out (verdictWork r s) (inr (inl (9, refl, refl))) bad
-      (λ v o. state-then R (first (gateTest N (r .signal) ∷ tableTest N r ∷ harmTest N M ∷ [])) s bad
-      (λ u. gate-then R (first (tableTest N r ∷ harmTest N M ∷ [])) N (r .signal) (inr (inl (11, refl, refl)))
-      (table-then R (first (harmTest N M ∷ [])) N r (inr (inl (12, refl, refl)))
-      (harm-then R Done N M (λ x i. inr (inr (x, i, (o, refl)))) (inl (omega arith, omega arith, refl))))))
+      session-by Q ws out (verdictWork r s) (inr (inl (9, refl, refl))) bad
+      (λ v o. first-by R ok (stateTest s ∷ gateTest N (r .signal) ∷ tableTest N r ∷ harmTest N M ∷ []) (
+        state-by R s bad (λ u. ok),
+        (
+          gate-by R N (r .signal) (inr (inl (11, refl, refl))) (λ w. ok),
+          (table-by R N r (inr (inl (12, refl, refl))) (λ f. ok), (harm-by R N M (λ x i. inr (inr (x, i, (o, refl)))) ok, tt)),
+        ),
+      ))
 
   exchange-ends : (r : Replacement) (out : List ℕ) → let l = exchangeCall ws r out in
       Gives l (packedOf (stored s r)) ws [] out ⊎ (Refuses l (9 ∷ 10 ∷ 11 ∷ 12 ∷ []) ws out ⊎ ((t : ℕ) × Names l 13 (t ∷ []) ws out))
@@ -144,14 +150,19 @@ module _ (ws : List ℕ) where
       let new = packedOf (stored s r) in
       let Q : Answer → Type 0 = λ a. let l = left a [] new ws out in
       Gives l new ws [] out ⊎ (Refuses l (9 ∷ 10 ∷ 11 ∷ 12 ∷ []) ws out ⊎ ((t : ℕ) × Names l 13 (t ∷ []) ws out)) in
-      let R = Within Q in
+      let R = Before Q Done in
       let shut = heldClosed s (r .signal) in
       let bad : Q (Refused InvalidState) = inr (inl (10, refl, refl)) in
-      session-then Q ws out (exchangeWork r s) (inr (inl (9, refl, refl))) bad
-      (λ v o. state-then R (first (exchangeTests N shut r)) s bad
-      (λ u. gate-then R (first (tableTest N r ∷ closedTest N shut r ∷ [])) N (r .signal) (inr (inl (11, refl, refl)))
-      (table-then R (first (closedTest N shut r ∷ [])) N r (inr (inl (12, refl, refl)))
-      (closed-then R Done N shut r (λ t. inr (inr (t, (o, refl)))) (inl (stored-room ws r v, omega arith, refl))))))
+      session-by Q ws out (exchangeWork r s) (inr (inl (9, refl, refl))) bad
+      (λ v o.
+      let ok : Q Done = inl (stored-room ws r v, omega arith, refl) in
+      first-by R ok (stateTest s ∷ exchangeTests N shut r) (
+        state-by R s bad (λ u. ok),
+        (
+          gate-by R N (r .signal) (inr (inl (11, refl, refl))) (λ w. ok),
+          (table-by R N r (inr (inl (12, refl, refl))) (λ f. ok), (closed-by R N shut r (λ t. inr (inr (t, (o, refl)))) ok, tt)),
+        ),
+      ))
 
 -- ## A file: 1 to 8, then 9
 
@@ -163,16 +174,16 @@ more-numbers x y (z ∷ ys) e = go (eqb z x) (more-numbers x y ys) e
     go true f e = refl
     go false f e = f e
 
-load-ends : (bytes session : List ℕ) → let l = loadCall bytes session in
-    Gives l (packedOf (loadOf bytes .session)) session [] [] ⊎ Refuses l (1 ∷ 2 ∷ 3 ∷ 4 ∷ 5 ∷ 6 ∷ 7 ∷ 8 ∷ 9 ∷ []) session []
+load-ends : (bytes session : List ℕ)
+    → Ends (loadCall bytes session) (packedOf (loadOf bytes .session)) session [] [] (1 ∷ 2 ∷ 3 ∷ 4 ∷ 5 ∷ 6 ∷ 7 ∷ 8 ∷ 9 ∷ [])
 unfolding loadCall
 load-ends bytes session =
-    let Q : Answer → Type 0 = Ends (1 ∷ 2 ∷ 3 ∷ 4 ∷ 5 ∷ 6 ∷ 7 ∷ 8 ∷ 9 ∷ []) [] (packedOf (loadOf bytes .session)) session [] in
+    let Q : Answer → Type 0 = EndsBy (packedOf (loadOf bytes .session)) session [] [] (1 ∷ 2 ∷ 3 ∷ 4 ∷ 5 ∷ 6 ∷ 7 ∷ 8 ∷ 9 ∷ []) in
     let room = roomTest sessionWords session in
     let by : (a : Answer) → loadOf bytes .answer ≡ a → Q (first (a ∷ room ∷ [])) → Q (loadAnswer bytes session) = λ a e q. rw e q in
     ⊎-elim
     (λ d. let e = ap (λ (l : Loaded). l .answer) d in
-    by Done e (room-then Q Done sessionWords session (inr (9, refl, refl)) (λ l. inl (loaded-room bytes session e l, omega arith, refl))))
+    by Done e (room-by (Before Q Done) sessionWords session (inr (9, refl, refl)) (λ l. inl (loaded-room bytes session e l, omega arith, refl))))
     (λ f. by (Refused (f .0)) (ap (λ (l : Loaded). l .answer) (f .2))
     (inr (numberOf (f .0), more-numbers (numberOf (f .0)) 9 file (f .1), rw (nameless (f .0) (f .1)))))
     (demand1 .load bytes)
@@ -187,9 +198,7 @@ demand1-calls = record {
   tables = tables-end;
   allTables = λ ws out. let s = sessionIn ws in room-ends ws (4 * s .m) (allTableWords s (s .m)) out (tables-length s (s .m));
   patternSets = λ ws words. let s = sessionIn ws in fills-end ws 0 [] (setWords s (s .m)) words [] refl;
-  hidden = λ ws out. let s = sessionIn ws in
-      let count : ℕ → ℕ = λ g. compatibleCount (loadedNet s) (s .n + g) in
-      room-ends ws (s .m) (places (s .m) count) out (length-places (s .m) count);
+  hidden = λ ws out. let s = sessionIn ws in room-ends ws (s .m) (hiddenCounts s) out (hidden-length s);
   write = λ ws file out. let s = sessionIn ws in fills-end ws 1 (length (bytesOf s) ∷ []) (bytesOf s) file out refl;
   verdict = verdict-ends;
   exchange = exchange-ends;

@@ -10,9 +10,7 @@ use native.Mathlib.Decide.{decLt}
 use lib.ListN.{length, getD, take, drop, length-take, List·getD-eq-default}
 use lib.Seq.{take-append-seam, getD-take, getD-drop}
 use borrow.Author.Tests.{le-ltb}
-use Rattle.bits.specs.Range.{places}
 use Rattle.bits.specs.Lists.{overwritten}
-use Rattle.bits.proofs.Ranges.{length-places}
 use Rattle.network.specs.declared.Session.{Session}
 use Rattle.network.specs.declared.Loaded.{Loaded}
 use Rattle.network.specs.declared.Refusal.the-variants.{BufferTooShort, InvalidState, Harm}
@@ -20,7 +18,6 @@ use Rattle.network.specs.declared.Answer.{Answer}
 use Rattle.network.specs.declared.Answer.the-variants.{Done, Refused}
 use Rattle.network.specs.Bounds.{excludedWords}
 use Rattle.network.specs.Net.{Net, isGate, patterns, Replacement, replaced}
-use Rattle.network.specs.Compatible.{compatibleCount}
 use Rattle.network.specs.Flat.{loadedNet, currentNet}
 use Rattle.network.specs.Refusals.{said}
 use Rattle.network.specs.Tests.{first}
@@ -28,21 +25,21 @@ use Rattle.network.specs.State.{stateTest}
 use Rattle.network.specs.Valid.{Shaped}
 use Rattle.network.specs.Load.{loadOf}
 use Rattle.network.specs.Write.{bytesOf}
-use Rattle.network.specs.Calls.{gateTest, tableTest, harmTest, verdictOf, gateTables, filled, roomTest, setWords, patternSetsOf, writeOf}
+use Rattle.network.specs.Calls.{gateTest, harmTest, verdictOf, gateTables, filled, roomTest, setWords, patternSetsOf, writeOf}
 use Rattle.network.specs.Sessions.{NoHarm, FirstHarm}
 use Rattle.network.proofs.TestLaws.{alone, clear-i}
 use Rattle.network.proofs.Valid.{state-e}
 use Rattle.network.proofs.Reached.{loaded-sized}
-use Rattle.network.proofs.Harm.{harm-none, harm-at}
+use Rattle.network.proofs.Harm.{harm-only, harm-none, harm-at, verdict-is}
+use Rattle.network.proofs.ByTest.{Before}
 use Rattle.render.specs.Listing.{listingOf, listingInto}
 use Rattle.roundtrip.proofs.RoundTrip.{round-trip}
-use Rattle.engine.proofs.Outcomes.{harm-only}
 use Rattle.packed.specs.Packed.{packedOf, excludedStart, sessionWords, part, sessionIn, wordsTest}
 use Rattle.packed.proofs.Inverse.{packed-back}
 use Rattle.boundary.specs.Boundary.{Left, numberFor, left, tableWords, allTableWords, writeWork, loadCall, listingCall, tablesCall, allTablesCall, patternSetsCall, hiddenCall, verdictCall, writeCall}
 use Rattle.boundary.specs.Promises.{Gives, Words, Asks, Demand2Calls}
-use Rattle.boundary.proofs.Tested.{room-i, session-then, fillAnswer, state-fill-then, words-state, words-sized}
-use Rattle.boundary.proofs.Demand1Calls.{tables-length, loaded-room}
+use Rattle.boundary.proofs.Tested.{room-i, session-by, fillAnswer, fill-by, words-state, words-sized}
+use Rattle.boundary.proofs.Demand1Calls.{tables-length, hiddenCounts, hidden-length, loaded-room}
 
 -- ## Where no test refuses
 
@@ -106,12 +103,13 @@ module _ (ws : List ℕ) (r : Replacement) (out : List ℕ) (j : Asks ws r) (o :
   M = replaced (currentNet (sessionIn ws)) (r ∷ [])
 
   -- the search for harm decides
-  verdict-is : verdictCall ws r out ≡ left (harmTest L M) [] [] [] out
-  unfolding verdictCall verdictOf gateTest tableTest
-  verdict-is =
+  judged : verdictCall ws r out ≡ left (harmTest L M) [] [] [] out
+  unfolding verdictCall
+  judged =
+      let s = sessionIn ws in
       let h = harmTest L M in
-      let a : first (wordsTest ws ∷ roomTest 2 out ∷ verdictOf (sessionIn ws) r ∷ []) ≡ h =
-      rw (j .0, le-ltb (length out) 2 o, words-state ws (j .0), j .1, j .2) (sym (alone h ∙ alone (first (h ∷ [])))) in
+      let a : first (wordsTest ws ∷ roomTest 2 out ∷ verdictOf s r ∷ []) ≡ h =
+      rw (j .0, le-ltb (length out) 2 o, verdict-is s r (words-state ws (j .0)) (j .1) (j .2)) (sym (alone h)) in
       ap (λ (x : Answer). left x [] [] [] out) a
 
   -- what a call that gives nothing leaves, by what it says
@@ -146,14 +144,14 @@ module _ (ws : List ℕ) (r : Replacement) (out : List ℕ) (j : Asks ws r) (o :
 
   shown-is : (x i : ℕ) → (verdictCall ws r out ≡ record { number = 14; buffer = []; out = overwritten (x ∷ i ∷ []) out }) ↔ FirstHarm L M x i
   shown-is x i = (
-    λ e. harm-at L M x i .0 (says-harm (harmTest L M) (harm-only L M) x i (sym verdict-is ∙ e)),
-    λ f. verdict-is ∙ verdict-says (harmTest L M) ∙ ap leftBy (harm-at L M x i .1 f),
+    λ e. harm-at L M x i .0 (says-harm (harmTest L M) (harm-only L M) x i (sym judged ∙ e)),
+    λ f. judged ∙ verdict-says (harmTest L M) ∙ ap leftBy (harm-at L M x i .1 f),
   )
 
   harmless-is : (verdictCall ws r out ≡ record { number = 0; buffer = []; out = out }) ↔ NoHarm L M (patterns L)
   harmless-is = (
-    λ e. harm-none L M .0 (says-nothing (harmTest L M) (harm-only L M) (sym verdict-is ∙ e)),
-    λ f. verdict-is ∙ verdict-says (harmTest L M) ∙ ap leftBy (harm-none L M .1 f),
+    λ e. harm-none L M .0 (says-nothing (harmTest L M) (harm-only L M) (sym judged ∙ e)),
+    λ f. judged ∙ verdict-says (harmTest L M) ∙ ap leftBy (harm-none L M .1 f),
   )
 
 -- ## A network written and read again
@@ -181,7 +179,7 @@ write-passed ws file out =
     let Q : Answer → Type 0 = λ a. numberFor a ≡ 0 → (wordsTest ws ≡ Done) × (1 ≤ length out) × (length (bytesOf s) ≤ length file) in
     let short : Q (Refused BufferTooShort) = λ e. (let z : ⊥ = omega arith in absurd z) in
     let bad : Q (Refused InvalidState) = λ e. (let z : ⊥ = omega arith in absurd z) in
-    session-then Q ws out (writeWork file s) short bad (λ v o. state-fill-then Q Done (bytesOf s) file s bad short (λ b e. (v, o, b)))
+    session-by Q ws out (writeWork file s) short bad (λ v o. fill-by (Before Q Done) (bytesOf s) file s bad short (λ b e. (v, o, b)))
 
 module _ (ws file out session : List ℕ) (h : Words ws) (e : writeCall ws file out .number ≡ 0) (room : sessionWords ≤ length session) where
   abbrev again : Left
@@ -216,9 +214,7 @@ demand2-calls = record {
   tables = λ ws gate out v. tables-given ws v gate out;
   allTables = λ ws out v. let s = sessionIn ws in room-given ws v (4 * s .m) (allTableWords s (s .m)) out (tables-length s (s .m));
   patternSets = λ ws words v. let s = sessionIn ws in fill-given ws v 0 [] (setWords s (s .m)) words [] refl (omega arith);
-  hidden = λ ws out v. let s = sessionIn ws in
-      let count : ℕ → ℕ = λ g. compatibleCount (loadedNet s) (s .n + g) in
-      room-given ws v (s .m) (places (s .m) count) out (length-places (s .m) count);
+  hidden = λ ws out v. let s = sessionIn ws in room-given ws v (s .m) (hiddenCounts s) out (hidden-length s);
   write = write-gives;
   shown = λ ws r out x i j o. shown-is ws r out j o x i;
   harmless = harmless-is;

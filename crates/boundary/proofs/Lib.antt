@@ -1,9 +1,9 @@
+pub mod Tested
 pub mod Names
 pub mod Leaves
 pub mod Fills
 pub mod Rows
 pub mod Cases
-pub mod Tested
 pub mod Demand1Calls
 pub mod Demand2Calls
 pub mod Demand3Calls

@@ -39,29 +39,25 @@ Refuses l numbers buffer out = (n : ℕ) × (member n numbers ≡ true) × (l �
 abbrev pub Names : Left → (n : ℕ) (values buffer out : List ℕ) → Type 0
 Names l n values buffer out = (length values ≤ length out) × (l ≡ record { number = n; buffer = buffer; out = overwritten values out })
 
+-- it gives, or refuses by one of the numbers
+abbrev pub Ends : Left → (new buffer given out numbers : List ℕ) → Type 0
+Ends l new buffer given out numbers = Gives l new buffer given out ⊎ Refuses l numbers buffer out
+
 pub record Demand1Calls : Type 0 where
   pub load : (file session : List ℕ)
-      → Gives (loadCall file session) (packedOf (loadOf file .session)) session [] []
-      ⊎ Refuses (loadCall file session) (1 ∷ 2 ∷ 3 ∷ 4 ∷ 5 ∷ 6 ∷ 7 ∷ 8 ∷ 9 ∷ []) session []
-  pub listing : (file text out : List ℕ)
-      → Gives (listingCall file text out) (listingOf file) text (length (listingOf file) ∷ []) out ⊎ Refuses (listingCall file text out) (9 ∷ []) text out
-  pub tables : (ws : List ℕ) (gate : ℕ) (out : List ℕ)
-      → Gives (tablesCall ws gate out) [] [] (tableWords (gateTables (sessionIn ws) gate)) out ⊎ Refuses (tablesCall ws gate out) (9 ∷ 10 ∷ 11 ∷ []) [] out
-  pub allTables : (ws out : List ℕ)
-      → Gives (allTablesCall ws out) [] [] (allTableWords (sessionIn ws) (sessionIn ws .m)) out ⊎ Refuses (allTablesCall ws out) (9 ∷ 10 ∷ []) [] out
-  pub patternSets : (ws words : List ℕ)
-      → Gives (patternSetsCall ws words) (setWords (sessionIn ws) (sessionIn ws .m)) words [] [] ⊎ Refuses (patternSetsCall ws words) (9 ∷ 10 ∷ []) words []
-  pub hidden : (ws out : List ℕ)
-      → Gives (hiddenCall ws out) [] [] (places (sessionIn ws .m) (λ g. compatibleCount (loadedNet (sessionIn ws)) (sessionIn ws .n + g))) out
-      ⊎ Refuses (hiddenCall ws out) (9 ∷ 10 ∷ []) [] out
-  pub write : (ws file out : List ℕ)
-      → Gives (writeCall ws file out) (bytesOf (sessionIn ws)) file (length (bytesOf (sessionIn ws)) ∷ []) out ⊎ Refuses (writeCall ws file out) (9 ∷ 10 ∷ []) file out
-  pub verdict : (ws : List ℕ) (r : Replacement) (out : List ℕ)
-      → Gives (verdictCall ws r out) [] [] [] out
-      ⊎ (Refuses (verdictCall ws r out) (9 ∷ 10 ∷ 11 ∷ 12 ∷ []) [] out ⊎ ((x : ℕ) × (i : ℕ) × Names (verdictCall ws r out) 14 (x ∷ i ∷ []) [] out))
-  pub exchange : (ws : List ℕ) (r : Replacement) (out : List ℕ)
-      → Gives (exchangeCall ws r out) (packedOf (stored (sessionIn ws) r)) ws [] out
-      ⊎ (Refuses (exchangeCall ws r out) (9 ∷ 10 ∷ 11 ∷ 12 ∷ []) ws out ⊎ ((t : ℕ) × Names (exchangeCall ws r out) 13 (t ∷ []) ws out))
+      → Ends (loadCall file session) (packedOf (loadOf file .session)) session [] [] (1 ∷ 2 ∷ 3 ∷ 4 ∷ 5 ∷ 6 ∷ 7 ∷ 8 ∷ 9 ∷ [])
+  pub listing : (file text out : List ℕ) → Ends (listingCall file text out) (listingOf file) text (length (listingOf file) ∷ []) out (9 ∷ [])
+  pub tables : (ws : List ℕ) (gate : ℕ) (out : List ℕ) → Ends (tablesCall ws gate out) [] [] (tableWords (gateTables (sessionIn ws) gate)) out (9 ∷ 10 ∷ 11 ∷ [])
+  pub allTables : (ws out : List ℕ) → Ends (allTablesCall ws out) [] [] (allTableWords (sessionIn ws) (sessionIn ws .m)) out (9 ∷ 10 ∷ [])
+  pub patternSets : (ws words : List ℕ) → Ends (patternSetsCall ws words) (setWords (sessionIn ws) (sessionIn ws .m)) words [] [] (9 ∷ 10 ∷ [])
+  pub hidden : (ws out : List ℕ) → Ends (hiddenCall ws out) [] [] (places (sessionIn ws .m) (λ g. compatibleCount (loadedNet (sessionIn ws)) (sessionIn ws .n + g))) out (9 ∷ 10 ∷ [])
+  pub write : (ws file out : List ℕ) → Ends (writeCall ws file out) (bytesOf (sessionIn ws)) file (length (bytesOf (sessionIn ws)) ∷ []) out (9 ∷ 10 ∷ [])
+  -- 14 names pattern and output
+  pub verdict : (ws : List ℕ) (r : Replacement) (out : List ℕ) → let l = verdictCall ws r out in
+      Gives l [] [] [] out ⊎ (Refuses l (9 ∷ 10 ∷ 11 ∷ 12 ∷ []) [] out ⊎ ((x : ℕ) × (i : ℕ) × Names l 14 (x ∷ i ∷ []) [] out))
+  -- 13 names the entry
+  pub exchange : (ws : List ℕ) (r : Replacement) (out : List ℕ) → let l = exchangeCall ws r out in
+      Gives l (packedOf (stored (sessionIn ws) r)) ws [] out ⊎ (Refuses l (9 ∷ 10 ∷ 11 ∷ 12 ∷ []) ws out ⊎ ((t : ℕ) × Names l 13 (t ∷ []) ws out))
 
 -- ## Demand 2
 

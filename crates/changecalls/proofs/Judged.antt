@@ -1,55 +1,34 @@
 -- Verdict and exchange: what their answers name, and what the calls leave by them. Assumes nothing.
 use mathlib.Core.Path.{_≡_, refl, sym, _∙_}
-use mathlib.Core.Bool.{Bool, _&&_}
 use mathlib.Core.List.{List, [], _∷_}
 use Prim.Native.Nat.{ℕ}
 use native.Mathlib.Omega.{arith}
-use lib.ListN.{length}
-use Rattle.bits.specs.declared.Found.{Found}
-use Rattle.bits.specs.declared.Found.the-variants.{At, Nothing}
-use Rattle.bits.specs.Range.{smallest}
 use Rattle.bits.specs.Lists.{overwritten}
 use Rattle.network.specs.declared.Session.{Session}
 use Rattle.network.specs.declared.Refusal.{Refusal}
 use Rattle.network.specs.declared.Answer.{Answer}
 use Rattle.network.specs.declared.Answer.the-variants.{Done, Refused}
-use Rattle.network.specs.Net.{Net, entries, patternOrder, Replacement, replaced}
-use Rattle.network.specs.DontCares.{harms}
+use Rattle.network.specs.Net.{Replacement, replaced}
 use Rattle.network.specs.Flat.{loadedNet, currentNet}
 use Rattle.network.specs.Refusals.{numberOf, valuesOf}
 use Rattle.network.specs.Tests.{first}
 use Rattle.network.specs.State.{stateTest}
-use Rattle.network.specs.Calls.{gateTest, tableTest, alters, entryFound, closedTest, outputFound, firstHarm, harmTest, heldClosed, exchangeTests, exchangeAnswer, verdictOf}
+use Rattle.network.specs.Calls.{gateTest, tableTest, harmTest, heldClosed, exchangeTests, exchangeAnswer, verdictOf}
 use Rattle.network.proofs.TestLaws.{alone}
+use Rattle.network.proofs.ByTest.{closed-by, harm-by}
 use Rattle.boundary.specs.Boundary.{left}
-use Rattle.boundary.proofs.Names.{NamesMost, names-or, names-first, names-state, names-gate, names-table}
+use Rattle.boundary.proofs.Names.{NamesMost, names-first, names-state, names-gate, names-table}
 use Rattle.boundary.proofs.Leaves.{Leaves, refused-with, done}
 
 -- ## What the answers name
 
 pub names-exchange : (s : Session) (r : Replacement) → NamesMost 1 (exchangeAnswer s r)
-unfolding exchangeAnswer closedTest
+unfolding exchangeAnswer
 names-exchange s r =
     let N = loadedNet s in
     let shut = heldClosed s (r .signal) in
     names-first 1 (stateTest s ∷ exchangeTests N shut r)
-    (names-state 1 s, (names-gate 1 N (r .signal), (names-table 1 N r, (go (smallest (entries N (r .signal)) (λ t. shut t && alters N r t)), tt))))
-  where
-    go : (f : Found) → NamesMost 1 (entryFound f)
-    go (At t) = omega arith
-    go Nothing = omega arith
-
-names-first-harm : (h : ℕ → ℕ → Bool) (p : ℕ) (xs : List ℕ) → NamesMost 2 (firstHarm h p xs)
-names-first-harm h p [] = omega arith
-names-first-harm h p (x ∷ xs) = names-or 2 (outputFound x (smallest p (h x))) (firstHarm h p xs) (go (smallest p (h x))) (names-first-harm h p xs)
-  where
-    go : (f : Found) → NamesMost 2 (outputFound x f)
-    go (At i) = omega arith
-    go Nothing = omega arith
-
-names-harm : (L M : Net) → NamesMost 2 (harmTest L M)
-unfolding harmTest
-names-harm L M = names-first-harm (harms L M) (length (L .outputs)) (patternOrder L)
+    (names-state 1 s, (names-gate 1 N (r .signal), (names-table 1 N r, (closed-by (NamesMost 1) N shut r (λ t. omega arith) (omega arith), tt))))
 
 pub names-verdict : (s : Session) (r : Replacement) → NamesMost 2 (verdictOf s r)
 unfolding verdictOf
@@ -57,7 +36,7 @@ names-verdict s r =
     let N = loadedNet s in
     let M = replaced (currentNet s) (r ∷ []) in
     names-first 2 (stateTest s ∷ gateTest N (r .signal) ∷ tableTest N r ∷ harmTest N M ∷ [])
-    (names-state 2 s, (names-gate 2 N (r .signal), (names-table 2 N r, (names-harm N M, tt))))
+    (names-state 2 s, (names-gate 2 N (r .signal), (names-table 2 N r, (harm-by (NamesMost 2) N M (λ x i. omega arith) (omega arith), tt))))
 
 -- ## What a call leaves whose own test is y, and that gives nothing in `out`
 

@@ -27,17 +27,18 @@ use Rattle.network.specs.Load.{loadDone, onward, readOf, opened, loadOf}
 use Rattle.network.specs.Write.{bytesOf}
 use Rattle.network.specs.Calls.{gateTest, tableTest, harmTest, exchangeTests, heldClosed, exchangeAnswer, exchanged, exchangeOf, verdictOf, gateTables, givenTables, tablesOf, Filled, roomTest, filled, setWords, patternSetsOf, writeOf, countsFor, countsOf, withLength, writtenOf}
 use Rattle.network.specs.Sessions.{after, NoHarm, FirstHarm}
-use Rattle.network.proofs.TestLaws.{alone, count-e}
+use Rattle.network.proofs.TestLaws.{count-e}
 use Rattle.network.proofs.Valid.{valid-e, state-e, state-i}
 use Rattle.network.proofs.Fresh.{Fresh}
 use Rattle.network.proofs.Exchanges.{loaded-length, loaded-inputs, gate-e, open-at, gates-most, after-is, after-valid, after-loaded, after-shaped}
 use Rattle.network.proofs.Reached.{loaded-fresh, loaded-shaped}
-use Rattle.network.proofs.Harm.{harm-done, harm-none, harm-at}
+use Rattle.network.proofs.Harm.{harm-only, harm-done, harm-none, harm-at, verdict-is}
+use Rattle.network.proofs.ByTest.{room-by, state-by, gate-by, table-by, closed-by, harm-by}
 use Rattle.network.proofs.Demand3.{demand3-of, rule4-of}
 use Rattle.network.proofs.Inside.{inside-of}
 use Rattle.roundtrip.proofs.RoundTrip.{round-trip}
 use Rattle.engine.specs.Demands.{Ends, Demand1, lone, Changes, Judged, Reached, Demand2, Demand3}
-use Rattle.engine.proofs.Outcomes.{file, ends, harm-only, tests-end, room-among, state-among, gate-among, table-among, closed-among, harm-among, read-among}
+use Rattle.engine.proofs.Outcomes.{file, Among, ends, tests-end, read-among}
 
 -- ## Calls that fill a buffer with new words or bytes
 
@@ -53,7 +54,7 @@ module _ (s : Session) (new buffer : List ℕ) where
       → Ends (seen (filled (first fillTests) new buffer)) (seen full-buffer) (9 ∷ 10 ∷ []) (λ r. seen (record { answer = Refused r; buffer = buffer }))
   fills-end seen =
       let ns : List ℕ = 9 ∷ 10 ∷ [] in
-      tests-end ns (λ a. seen (filled a new buffer)) fillTests (state-among ns refl s, (room-among ns refl (length new) buffer, tt))
+      tests-end ns (λ a. seen (filled a new buffer)) fillTests (state-by (Among ns) s refl (λ v. tt), (room-by (Among ns) (length new) buffer refl (λ l. tt), tt))
 
   fills-done : stateTest s ≡ Done → length new ≤ length buffer → filled (first fillTests) new buffer ≡ full-buffer
   fills-done v l = rw (v, le-ltb (length buffer) (length new) l)
@@ -66,20 +67,22 @@ demand1 = record {
   load = λ bytes. ends file (λ a. onward a (loadDone (opened (readOf bytes .session)))) (readOf bytes .answer) (read-among bytes);
   tables = λ s g. let ns : List ℕ = 10 ∷ 11 ∷ [] in
       tests-end ns (λ a. givenTables a (gateTables s g)) (stateTest s ∷ gateTest (loadedNet s) g ∷ [])
-      (state-among ns refl s, (gate-among ns refl (loadedNet s) g, tt));
+      (state-by (Among ns) s refl (λ v. tt), (gate-by (Among ns) (loadedNet s) g refl (λ w. tt), tt));
   patternSets = λ s buffer. fills-end s (setWords s (s .m)) buffer (λ f. f);
   exchange = λ s r. let ns : List ℕ = 10 ∷ 11 ∷ 12 ∷ 13 ∷ [] in
+      let Q = Among ns in
       let N = loadedNet s in
       let shut = heldClosed s (r .signal) in
       tests-end ns (λ a. exchanged a s r) (stateTest s ∷ exchangeTests N shut r)
-      (state-among ns refl s, (gate-among ns refl N (r .signal), (table-among ns refl N r, (closed-among ns (λ t. refl) N shut r, tt))));
+      (state-by Q s refl (λ v. tt), (gate-by Q N (r .signal) refl (λ w. tt), (table-by Q N r refl (λ f. tt), (closed-by Q N shut r (λ t. refl) tt, tt))));
   verdict = λ s r. let ns : List ℕ = 10 ∷ 11 ∷ 12 ∷ 14 ∷ [] in
+      let Q = Among ns in
       let N = loadedNet s in
       let M = lone s r in
       tests-end ns (λ a. a) (stateTest s ∷ gateTest N (r .signal) ∷ tableTest N r ∷ harmTest N M ∷ [])
-      (state-among ns refl s, (gate-among ns refl N (r .signal), (table-among ns refl N r, (harm-among ns (λ x i. refl) N M, tt))));
+      (state-by Q s refl (λ v. tt), (gate-by Q N (r .signal) refl (λ w. tt), (table-by Q N r refl (λ f. tt), (harm-by Q N M (λ x i. refl) tt, tt))));
   write = λ s buffer. fills-end s (bytesOf s) buffer (withLength (length (bytesOf s)));
-  counts = λ s. ends (10 ∷ []) (λ a. countsFor a s) (stateTest s) (state-among (10 ∷ []) refl s);
+  counts = λ s. ends (10 ∷ []) (λ a. countsFor a s) (stateTest s) (state-by (Among (10 ∷ [])) s refl (λ v. tt));
 }
 
 -- ## Demand 2: in every state that 10 does not refuse
@@ -98,11 +101,6 @@ module _ (s : Session) (v : stateTest s ≡ Done) where
       ∙ places-at 0 mostGates at g (omega arith)
       ∙ ap (λ b. cond b (compatibleCount (loadedNet s) (s .n + g)) 0) (lt-ltb g (s .m) l)
 
--- the verdict of a lone replacement is the search for harm
-verdict-is : (s : Session) (r : Replacement) → Judged s r → verdictOf s r ≡ harmTest (loadedNet s) (lone s r)
-unfolding verdictOf gateTest tableTest
-verdict-is s r j = rw (j .0, j .1, j .2) (sym (alone (harmTest (loadedNet s) (lone s r))))
-
 -- what an answer says exactly where P holds, one that equals it says too
 same-said : {P : Type 0} (a b : Answer) (l : List ℕ) → a ≡ b → (said b ≡ l) ↔ P → (said a ≡ l) ↔ P
 same-said a b l e h = (λ k. h .0 (ap said (sym e) ∙ k), λ p. ap said e ∙ h .1 p)
@@ -111,18 +109,21 @@ module _ (s : Session) (r : Replacement) (j : Judged s r) where
   abbrev L : Net
   L = loadedNet s
 
+  is : verdictOf s r ≡ harmTest L (lone s r)
+  is = verdict-is s r (j .0) (j .1) (j .2)
+
   shown-at : (x i : ℕ) → (said (verdictOf s r) ≡ 14 ∷ x ∷ i ∷ []) ↔ FirstHarm L (lone s r) x i
-  shown-at x i = same-said _ _ _ (verdict-is s r j) (harm-at L (lone s r) x i)
+  shown-at x i = same-said _ _ _ is (harm-at L (lone s r) x i)
 
   harmless-is : (said (verdictOf s r) ≡ []) ↔ NoHarm L (lone s r) (patterns L)
-  harmless-is = same-said _ _ _ (verdict-is s r j) (harm-none L (lone s r))
+  harmless-is = same-said _ _ _ is (harm-none L (lone s r))
 
   harmful-is : ((x : ℕ) × (i : ℕ) × (said (verdictOf s r) ≡ 14 ∷ x ∷ i ∷ [])) ↔ ((x : ℕ) × (i : ℕ) × Changes s r x i)
   harmful-is = (
     λ f. let h = shown-at (f .0) (f .1) .0 (f .2) in
         (f .0, f .1, (h .pattern, h .output, h .harm)),
     λ f. ⊎-elim (λ e. clash (f .2 .2) (harm-done L (lone s r) .0 e (f .0) (f .1) (f .2 .0) (f .2 .1)))
-        (λ h. (h .0, h .1, ap said (verdict-is s r j ∙ h .2))) (harm-only L (lone s r)),
+        (λ h. (h .0, h .1, ap said (is ∙ h .2))) (harm-only L (lone s r)),
   )
 
 -- ## In every session that a load and exchanges give

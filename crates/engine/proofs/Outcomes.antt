@@ -1,28 +1,23 @@
 -- The tests of each call refuse by the numbers that demand 1 lists, and by no other. Assumes nothing.
-use mathlib.Core.Path.{_≡_, refl}
-use mathlib.Core.Logic.{_⊎_, inl, inr, ⊎-elim}
+use mathlib.Core.Path.{refl}
+use mathlib.Core.Logic.{inl, inr}
 use mathlib.Core.Bool.{Bool, true, false, not, cond, _&&_}
 use mathlib.Core.List.{List, [], _∷_, map}
 use Prim.Native.Nat.{ℕ, zero, suc, _+_, _*_, _-_, _^_}
 use lib.Dec.{leb, ltb, eqb}
 use lib.ListN.{length, getD, take, drop}
-use Rattle.bits.specs.declared.Found.{Found}
-use Rattle.bits.specs.declared.Found.the-variants.{At, Nothing}
 use Rattle.bits.specs.Bounds.{mostInputs}
-use Rattle.bits.specs.Range.{upFrom, smallest}
+use Rattle.bits.specs.Range.{upFrom}
 use Rattle.network.specs.declared.Session.{Session}
 use Rattle.network.specs.declared.Loaded.{Loaded}
 use Rattle.network.specs.declared.Refusal.{Refusal}
-use Rattle.network.specs.declared.Refusal.the-variants.{Truncated, UnexpectedMark, OutOfBounds, FaninNotEarlier, FaninRepeated, BitPastEnd, NotASignal, TrailingBytes, BufferTooShort, InvalidState, NotAGate, TableTooWide, ClosedEntry, Harm}
+use Rattle.network.specs.declared.Refusal.the-variants.{Truncated, UnexpectedMark, OutOfBounds, FaninNotEarlier, FaninRepeated, BitPastEnd, NotASignal, TrailingBytes}
 use Rattle.network.specs.declared.Answer.{Answer}
 use Rattle.network.specs.declared.Answer.the-variants.{Done, Refused}
 use Rattle.network.specs.Bounds.{mostGates, mostOutputs, mostFanins, excludedWords}
-use Rattle.network.specs.Net.{Net, isGate, entries, patternOrder, Replacement}
-use Rattle.network.specs.DontCares.{harms}
-use Rattle.network.specs.Tests.{refuseIf, orElse, first, lengthTest, mark, markTest, countTest, member, faninTest, faninsTest, widthTest, excludedTest, outputTest}
-use Rattle.network.specs.State.{stateFault, asInvalid, stateTest}
+use Rattle.network.specs.Tests.{refuseIf, first, lengthTest, mark, markTest, countTest, member, faninTest, faninsTest, widthTest, excludedTest, outputTest}
 use Rattle.network.specs.Load.{started, onward, outputTests, outputRecord, withOutput, readOutputs, faninsIn, afterFanins, tableIn, gateTests, gateRecord, withGate, readGates, setBytes, excludedIn, withExcluded, isExcluded, excludedTests, excludedRecord, readBody, headerTests, headerRecord, readOf}
-use Rattle.network.specs.Calls.{gateTest, fits, tableTest, alters, entryFound, closedTest, outputFound, harmIn, harmTest, roomTest}
+use Rattle.network.proofs.ByTest.{if-by, or-by, Each, first-by}
 use Rattle.engine.specs.Demands.{Numbered, Ends}
 
 -- ## Answers
@@ -37,80 +32,21 @@ pub ends : {A : Type 0} (ns : List ℕ) (left : Answer → A) (a : Answer) → A
 ends ns left Done p = inl refl
 ends ns left (Refused r) p = inr (r, p, refl)
 
--- the search for harm gives 14 or nothing
-abbrev HarmOnly : Answer → Type 0
-HarmOnly a = (a ≡ Done) ⊎ ((x : ℕ) × (i : ℕ) × (a ≡ Refused (Harm x i)))
-
-pub harm-only : (L M : Net) → HarmOnly (harmTest L M)
-unfolding harmTest
-harm-only L M = go (patternOrder L)
-  where
-    found : (x : ℕ) (f : Found) (rest : Answer) → HarmOnly rest → HarmOnly (orElse (outputFound x f) rest)
-    found x (At i) rest h = inr (x, i, refl)
-    found x Nothing rest h = h
-
-    go : (xs : List ℕ) → HarmOnly (harmIn L M xs)
-    go [] = inl refl
-    go (x ∷ xs) = found x (smallest (length (L .outputs)) (harms L M x)) (harmIn L M xs) (go xs)
-
 module _ (ns : List ℕ) where
   if-among : (b : Bool) (r : Refusal) → Numbered ns r → Among ns (refuseIf b r)
-  if-among true r p = p
-  if-among false r p = tt
+  if-among b r p = if-by (Among ns) b r p (λ e. tt)
 
-  or-among : (a b : Answer) → Among ns a → Among ns b → Among ns (orElse a b)
-  or-among Done b p q = q
-  or-among (Refused r) b p q = p
-
-  -- each of the tests
-  abbrev pub Each : List Answer → Type 0
-  Each [] = Unit {0}
-  Each (a ∷ rest) = Among ns a × Each rest
-
-  first-among : (tests : List Answer) → Each tests → Among ns (first tests)
-  first-among [] p = tt
-  first-among (a ∷ rest) p = or-among a (first rest) (p .0) (first-among rest (p .1))
+  first-among : (tests : List Answer) → Each (Among ns) tests → Among ns (first tests)
+  first-among = first-by (Among ns) tt
 
   -- a call that goes by a list of tests
-  pub tests-end : {A : Type 0} (left : Answer → A) (tests : List Answer) → Each tests → Ends (left (first tests)) (left Done) ns (λ r. left (Refused r))
+  pub tests-end : {A : Type 0} (left : Answer → A) (tests : List Answer) → Each (Among ns) tests → Ends (left (first tests)) (left Done) ns (λ r. left (Refused r))
   tests-end left tests p = ends ns left (first tests) (first-among tests p)
 
   -- one test for each number
   map-among : (p : ℕ → Answer) → ((i : ℕ) → Among ns (p i)) → (l : List ℕ) → Among ns (first (map p l))
   map-among p h [] = tt
-  map-among p h (i ∷ l) = or-among (p i) (first (map p l)) (h i) (map-among p h l)
-
-  -- ## 9 to 14
-
-  pub room-among : Numbered ns BufferTooShort → (needed : ℕ) (buffer : List ℕ) → Among ns (roomTest needed buffer)
-  room-among p needed buffer = if-among (ltb (length buffer) needed) BufferTooShort p
-
-  pub state-among : Numbered ns InvalidState → (s : Session) → Among ns (stateTest s)
-  unfolding stateTest
-  state-among p s = go (stateFault s)
-    where
-      go : (a : Answer) → Among ns (asInvalid a)
-      go Done = tt
-      go (Refused r) = p
-
-  pub gate-among : Numbered ns NotAGate → (N : Net) (g : ℕ) → Among ns (gateTest N g)
-  unfolding gateTest
-  gate-among p N g = if-among (not (isGate N g)) NotAGate p
-
-  pub table-among : Numbered ns TableTooWide → (N : Net) (r : Replacement) → Among ns (tableTest N r)
-  unfolding tableTest
-  table-among p N r = if-among (not (fits N r)) TableTooWide p
-
-  pub closed-among : ((t : ℕ) → Numbered ns (ClosedEntry t)) → (N : Net) (shut : ℕ → Bool) (r : Replacement) → Among ns (closedTest N shut r)
-  unfolding closedTest
-  closed-among p N shut r = go (smallest (entries N (r .signal)) (λ t. shut t && alters N r t))
-    where
-      go : (f : Found) → Among ns (entryFound f)
-      go (At t) = p t
-      go Nothing = tt
-
-  pub harm-among : ((x i : ℕ) → Numbered ns (Harm x i)) → (L M : Net) → Among ns (harmTest L M)
-  harm-among p L M = ⊎-elim (λ e. rw e tt) (λ f. rw (f .2) (p (f .0) (f .1))) (harm-only L M)
+  map-among p h (i ∷ l) = or-by (Among ns) (p i) (first (map p l)) (h i) (map-among p h l)
 
 -- ## 1 to 8
 

@@ -27,11 +27,12 @@ use Rattle.network.specs.Refusals.{said}
 use Rattle.network.specs.Calls.{fits, alters, harmTest, verdictOf}
 use Rattle.network.specs.Sessions.{after, answerBy, took, lastAccepted, finalTables, NoHarm, Inside, InsideOf}
 use Rattle.network.proofs.Fresh.{Fresh}
+use Rattle.network.proofs.Valid.{state-i}
 use Rattle.network.proofs.FlatGates.{length-gates}
 use Rattle.network.proofs.Earlier.{gates-at}
 use Rattle.network.proofs.Said.{said-done}
-use Rattle.network.proofs.Harm.{harm-done}
-use Rattle.network.proofs.Lone.{verdict-is, lone-session}
+use Rattle.network.proofs.Harm.{harm-done, verdict-is}
+use Rattle.network.proofs.Lone.{lone-session}
 use Rattle.network.proofs.Reached.{loaded-fresh}
 use Rattle.network.proofs.Exchanges.{accepts, accepts-e, answer-because, answer-only-because, Cause, gate-e, open-bit, set-at, gates-most, after-valid, after-loaded}
 use Rattle.network.proofs.Demand3.{KeepsClosed, last-keeps, last-append, outputs-stay, final-at, current-is, outputs-loaded, demand3}
@@ -114,7 +115,7 @@ module _ (s : Session) (fresh : Fresh s) (rs : List Replacement) where
     harmless-now : verdictOf now r ≡ Done
     harmless-now =
         let same = after-loaded s fresh rs in
-        verdict-is now (after-valid s fresh rs) (outputs-loaded s fresh rs) r (ap (λ (L : Net). isGate L (r .signal)) same ∙ why .0) (ap (λ (L : Net). fits L r) same ∙ why .1)
+        verdict-is now r (state-i now (after-valid s fresh rs)) (ap (λ (L : Net). isGate L (r .signal)) same ∙ why .0) (ap (λ (L : Net). fits L r) same ∙ why .1)
         ∙ ap (λ (L : Net). harmTest L (replaced (currentNet now) (r ∷ []))) same
         ∙ harm-done N (replaced (currentNet now) (r ∷ [])) .1 no-harm
 

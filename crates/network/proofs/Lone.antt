@@ -20,14 +20,13 @@ use Rattle.network.specs.Net.{Gate, Net, arity, isGate, noGate, gate, en
 use Rattle.network.specs.DontCares.{runInverted, valuesInverted, outputKept, odc, full, harms}
 use Rattle.network.specs.Flat.{gatesOf, netOf, loadedNet, currentNet}
 use Rattle.network.specs.State.{stateFault}
-use Rattle.network.specs.Calls.{gateTest, fits, tableTest, alters, harmTest, verdictOf}
+use Rattle.network.specs.Calls.{alters, harmTest, verdictOf}
 use Rattle.network.specs.Sessions.{NoHarm, LoneHarmless}
-use Rattle.network.proofs.TestLaws.{alone}
 use Rattle.network.proofs.FlatGates.{arity-at, length-gates}
 use Rattle.network.proofs.Valid.{state-i, net-ok}
 use Rattle.network.proofs.Earlier.{Earlier, earlier-net, gates-at, gate-bounds, entry-below, entry-keep}
 use Rattle.network.proofs.Said.{said-done}
-use Rattle.network.proofs.Harm.{harm-done}
+use Rattle.network.proofs.Harm.{harm-done, verdict-is}
 
 -- ## Values with one table replaced
 
@@ -170,11 +169,6 @@ module _ (s : Session) where
         short i h = omega (arith, length-places (s .p) (λ i. getD (s .outputs) i 0))
 
     module _ (r : Replacement) where
-      pub verdict-is : isGate (loadedNet s) (r .signal) ≡ true → fits (loadedNet s) r ≡ true
-          → verdictOf s r ≡ harmTest (loadedNet s) (replaced (currentNet s) (r ∷ []))
-      unfolding verdictOf gateTest tableTest
-      verdict-is w k = rw (state-i s valid, w, k) (sym (alone (harmTest (loadedNet s) (replaceOne (currentNet s) r))))
-
       early : Earlier (currentNet s .inputs) (currentNet s .gates)
       unfolding currentNet netOf
       early = earlier-net (s .current) (net-ok s valid)
@@ -184,7 +178,8 @@ module _ (s : Session) where
           let l = lone (currentNet s) early r (loaded-gate (r .signal) ∙ w) in
           let j = judged (replaceOne (currentNet s) r) in
           let q = loaded-arity (r .signal) w in
+          let e = verdict-is s r (state-i s valid) w k in
           let d = said-done (verdictOf s r) in (
-            λ e t h. l .0 (j .0 (sym (verdict-is w k) ∙ d .0 e)) t (rw q at h),
-            λ f. d .1 (verdict-is w k ∙ j .1 (l .1 (λ t h. f t (rw q h)))),
+            λ a t h. l .0 (j .0 (sym e ∙ d .0 a)) t (rw q at h),
+            λ f. d .1 (e ∙ j .1 (l .1 (λ t h. f t (rw q h)))),
           )
