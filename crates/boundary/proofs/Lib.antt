@@ -7,4 +7,4 @@ pub mod Cases
 pub mod Demand1Calls
 pub mod Demand2Calls
 pub mod Demand3Calls
-pub mod AcceptedCalls
+pub mod AfterCalls

@@ -12,7 +12,8 @@ use Rattle.network.specs.declared.Session.{Session}
 use Rattle.network.specs.declared.Answer.{Answer}
 use Rattle.network.specs.declared.Answer.the-variants.{Done}
 use Rattle.network.specs.Net.{Net, isGate, patterns, excludedFor, output, Replacement, replaced}
-use Rattle.network.specs.Compatible.{compatibleCount}
+use Rattle.network.specs.DontCares.{sdc, cdc, full}
+use Rattle.network.specs.Compatible.{compatibleCount, openTable}
 use Rattle.network.specs.Flat.{loadedNet, currentNet}
 use Rattle.network.specs.Refusals.{said}
 use Rattle.network.specs.Tests.{member, first}
@@ -146,8 +147,17 @@ Demand3OfCalls = (file session : List ℕ) (list : List Asked) → loadCall file
     → let s = loadOf file .session in let ws = loadCall file session .buffer in
     (loadOf file ≡ loadDone s) × Holds ws s × Demand3 s (roomy list) × Demand3Calls ws s list
 
--- after a load and any list of exchange calls, what an exchange call accepts a verdict call finds harmless
-abbrev pub AcceptedHarmlessCalls : Type 0
-AcceptedHarmlessCalls = (file session : List ℕ) (list : List Asked) (r : Replacement) (o v : List ℕ) → loadCall file session .number ≡ 0 → 2 ≤ length v
-    → let ws = wordsAfter (loadCall file session .buffer) list in
-    exchangeCall ws r o .number ≡ 0 → verdictCall ws r v .number ≡ 0
+-- ## Calls on the words that a load and any list of exchange calls left
+
+pub record AfterCalls (ws : List ℕ) (s : Session) (list : List Asked) : Type 0 where
+  -- the tables are 01's: SDC, CDC and full table of the current network, the open table of the loaded one
+  pub tables : (g : ℕ) (out : List ℕ) → isGate (loadedNet s) g ≡ true → 4 ≤ length out
+      → let C = currentNet (after s (roomy list)) in
+      tablesCall (wordsAfter ws list) g out
+      ≡ record { number = 0; buffer = []; out = overwritten (sdc C g ∷ cdc C g ∷ full C g ∷ openTable (loadedNet s) g ∷ []) out }
+  -- what an exchange call accepts, a verdict call finds harmless
+  pub acceptedHarmless : (r : Replacement) (o v : List ℕ) → 2 ≤ length v
+      → exchangeCall (wordsAfter ws list) r o .number ≡ 0 → verdictCall (wordsAfter ws list) r v .number ≡ 0
+
+abbrev pub AfterCallsOf : Type 0
+AfterCallsOf = (file session : List ℕ) (list : List Asked) → loadCall file session .number ≡ 0 → AfterCalls (loadCall file session .buffer) (loadOf file .session) list

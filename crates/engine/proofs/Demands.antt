@@ -17,7 +17,7 @@ use Rattle.network.specs.declared.Answer.{Answer}
 use Rattle.network.specs.declared.Answer.the-variants.{Done, Refused}
 use Rattle.network.specs.Bounds.{mostGates}
 use Rattle.network.specs.Net.{Net, isGate, patterns, Replacement}
-use Rattle.network.specs.Compatible.{compatibleCount, openTable}
+use Rattle.network.specs.Compatible.{compatibleCount}
 use Rattle.network.specs.Flat.{loadedNet}
 use Rattle.network.specs.Valid.{Shaped}
 use Rattle.network.specs.Refusals.{said}
@@ -30,7 +30,7 @@ use Rattle.network.specs.Sessions.{after, NoHarm, FirstHarm}
 use Rattle.network.proofs.TestLaws.{count-e}
 use Rattle.network.proofs.Valid.{valid-e, state-e, state-i}
 use Rattle.network.proofs.Fresh.{Fresh}
-use Rattle.network.proofs.Exchanges.{loaded-length, loaded-inputs, gate-e, open-at, gates-most, after-is, after-valid, after-loaded, after-shaped}
+use Rattle.network.proofs.Exchanges.{after-valid, after-loaded, after-shaped, after-open}
 use Rattle.network.proofs.Reached.{loaded-fresh, loaded-shaped}
 use Rattle.network.proofs.Harm.{harm-only, harm-done, harm-none, harm-at, verdict-is}
 use Rattle.network.proofs.ByTest.{room-by, state-by, gate-by, table-by, closed-by, harm-by}
@@ -129,22 +129,12 @@ module _ (s : Session) (r : Replacement) (j : Judged s r) where
 -- ## In every session that a load and exchanges give
 
 module _ (s : Session) (fresh : Fresh s) (rs : List Replacement) where
-  -- the open table that the session holds is that of rule 7
-  after-open : (g : ℕ) → isGate (loadedNet s) g ≡ true → getD (after s rs .open_tables) (g - after s rs .n) 0 ≡ openTable (loadedNet s) g
-  after-open g w =
-      let b = gate-e s g w in
-      let back : loadedNet s .inputs + (g - s .n) ≡ g = omega (arith, loaded-inputs s) in
-      ap (λ (t : Session). getD (t .open_tables) (g - t .n) 0) (after-is s fresh rs)
-      ∙ ap (λ (ts : List ℕ). getD ts (g - s .n) 0) (fresh .held)
-      ∙ open-at (loadedNet s) (g - s .n) (omega (arith, gates-most s fresh)) (omega (arith, loaded-length s))
-      ∙ ap (openTable (loadedNet s)) back
-
   after-reached : Shaped s → Reached s (after s rs)
   after-reached shape = record {
     valid = state-i (after s rs) (after-valid s fresh rs);
     shaped = after-shaped s fresh rs shape;
     loaded = after-loaded s fresh rs;
-    opens = after-open;
+    opens = after-open s fresh rs;
   }
 
 pub demand2 : Demand2

@@ -294,6 +294,16 @@ module _ (s : Session) (fresh : Fresh s) where
   pub after-loaded : (rs : List Replacement) → loadedNet (after s rs) ≡ loadedNet s
   after-loaded rs = ap loadedNet (after-is rs) ∙ loaded-stays s (finalTables s rs)
 
+  -- the open table that it holds is that of rule 7
+  pub after-open : (rs : List Replacement) (g : ℕ) → isGate (loadedNet s) g ≡ true → getD (after s rs .open_tables) (g - after s rs .n) 0 ≡ openTable (loadedNet s) g
+  after-open rs g w =
+      let b = gate-e s g w in
+      let back : loadedNet s .inputs + (g - s .n) ≡ g = omega (arith, loaded-inputs s) in
+      ap (λ (t : Session). getD (t .open_tables) (g - t .n) 0) (after-is rs)
+      ∙ ap (λ (ts : List ℕ). getD ts (g - s .n) 0) (fresh .held)
+      ∙ open-at (loadedNet s) (g - s .n) (omega (arith, gates-most s fresh)) (omega (arith, loaded-length s))
+      ∙ ap (openTable (loadedNet s)) back
+
   -- exchanges leave the lengths of a session's arrays
   pub after-sized : (rs : List Replacement) → Sized s → Sized (after s rs)
   after-sized rs z =

@@ -1,0 +1,81 @@
+-- After a load and any list of exchange calls: the tables that a call gives are 01's, and an exchange that a call accepts is found
+-- harmless by a call. Over words that hold a session as a reader leaves it, and so of every file that loads. Assumes nothing.
+use mathlib.Core.Path.{_≡_, refl, sym, ap, ap₂, _∙_}
+use mathlib.Core.Bool.{Bool, true, false}
+use mathlib.Core.List.{List, [], _∷_}
+use Prim.Native.Nat.{ℕ, _≤_}
+use native.Mathlib.Omega.{arith}
+use lib.Dec.{ltb}
+use lib.ListN.{length}
+use borrow.Author.Tests.{le-ltb}
+use Rattle.bits.specs.Lists.{overwritten}
+use Rattle.network.specs.declared.Session.{Session}
+use Rattle.network.specs.declared.Refusal.the-variants.{BufferTooShort}
+use Rattle.network.specs.declared.Answer.{Answer}
+use Rattle.network.specs.declared.Answer.the-variants.{Done, Refused}
+use Rattle.network.specs.Net.{Net, isGate, Replacement}
+use Rattle.network.specs.DontCares.{sdc, cdc, full}
+use Rattle.network.specs.Flat.{loadedNet, currentNet}
+use Rattle.network.specs.Refusals.{said}
+use Rattle.network.specs.Tests.{refuseIf, orElse, first}
+use Rattle.network.specs.Calls.{verdictOf, gateTables, roomTest}
+use Rattle.network.specs.Sessions.{after, answerBy}
+use Rattle.network.proofs.Exchanges.{no-gate, too-wide, closes, accepts, Cause, answer-because, after-loaded, after-open}
+use Rattle.network.proofs.Inside.{accepted-harmless}
+use Rattle.boundary.specs.Boundary.{numberFor, tableWords, tablesCall, verdictCall}
+use Rattle.boundary.specs.Promises.{Asked, wordsAfter, roomy, Holds, AfterCalls, AfterCallsOf}
+use Rattle.boundary.proofs.Demand2Calls.{demand2-calls}
+use Rattle.boundary.proofs.Demand3Calls.{Ready, demand3-calls, call-after, loaded-ready}
+
+-- ## An exchange that is accepted
+
+-- an exchange call gives 0 only where the exchange is accepted
+accepted : (N : Net) (r : Replacement) (short : Bool) (a : Answer) → Cause N r a → numberFor (first (refuseIf short BufferTooShort ∷ a ∷ [])) ≡ 0 → said a ≡ []
+accepted N r true a c k = let z : ⊥ = omega arith in absurd z
+accepted N r false _ (no-gate p) k = let z : ⊥ = omega arith in absurd z
+accepted N r false _ (too-wide p q) k = let z : ⊥ = omega arith in absurd z
+accepted N r false _ (closes t p q w) k = let z : ⊥ = omega arith in absurd z
+accepted N r false _ (accepts p q w) k = refl
+
+-- an answer that says nothing is the number 0
+nothing-said : (a : Answer) → said a ≡ [] → numberFor (orElse a Done) ≡ 0
+nothing-said Done e = refl
+nothing-said (Refused f) e = let z : _≡_ {A = ℕ} 0 1 = cc in let q : ⊥ = omega arith in absurd q
+
+verdict-number : {ws : List ℕ} {s : Session} → Holds ws s → (r : Replacement) (v : List ℕ) → 2 ≤ length v → said (verdictOf s r) ≡ [] → verdictCall ws r v .number ≡ 0
+unfolding verdictCall
+verdict-number {ws} {s} h r v l e =
+    ap₂ (λ (a : Answer) (t : Session). numberFor (first (a ∷ roomTest 2 v ∷ verdictOf t r ∷ []))) (h .passes) (h .session)
+    ∙ rw (le-ltb (length v) 2 l) (nothing-said (verdictOf s r) e)
+
+-- ## The tables of a gate
+
+tables-words : {ws : List ℕ} {t : Session} → Holds ws t → (g : ℕ) (out : List ℕ) → isGate (loadedNet t) g ≡ true → 4 ≤ length out
+    → tablesCall ws g out ≡ record { number = 0; buffer = []; out = overwritten (tableWords (gateTables t g)) out }
+tables-words {ws} {t} h g out w l =
+    let is = h .session in
+    demand2-calls .tables ws g out (h .passes) (ap (λ (u : Session). isGate (loadedNet u) g) is ∙ w) l .2
+    ∙ ap (λ (u : Session). record { number = 0; buffer = []; out = overwritten (tableWords (gateTables u g)) out }) is
+
+-- ## After the calls
+
+module _ {ws : List ℕ} {s : Session} (at : Ready ws s) (list : List Asked) where
+  abbrev rs : List Replacement
+  rs = roomy list
+
+  holds : Holds (wordsAfter ws list) (after s rs)
+  holds = demand3-calls at list .holds
+
+  pub after-calls : AfterCalls ws s list
+  after-calls = record {
+    tables = λ g out w l. let C = currentNet (after s rs) in
+        tables-words holds g out (ap (λ (N : Net). isGate N g) (after-loaded s (at .fresh) rs) ∙ w) l
+        ∙ ap (λ (o : ℕ). record { number = 0; buffer = []; out = overwritten (sdc C g ∷ cdc C g ∷ full C g ∷ o ∷ []) out }) (after-open s (at .fresh) rs g w);
+    acceptedHarmless = λ r o v l k. let N = loadedNet s in
+        verdict-number holds r v l
+        (accepted-harmless s (at .fresh) rs r
+        (accepted N r (ltb (length o) 1) (answerBy N r) (answer-because N r) (sym (call-after at list (record { exchange = r; out = o })) ∙ k)));
+  }
+
+pub after-calls-of : AfterCallsOf
+after-calls-of file session list z = after-calls (loaded-ready file session z) list
