@@ -1,14 +1,15 @@
 -- Cases of the calls, each computed and held against what 01 says of the twin network, or of a refusal.
 -- A case is a pair: what the definitions give, and what is stated. Assumes nothing.
-use mathlib.Core.List.{List, [], _∷_, _++_}
+use mathlib.Core.List.{List, [], _∷_, _++_, map}
 use Prim.Native.Nat.{ℕ, _+_, _-_}
 use lib.ListN.{set, take, replicate}
 use Rattle.text.specs.Ascii.{ascii}
 use Rattle.network.specs.Net.{Replacement}
-use Rattle.network.specs.Examples.{twinBytes, twinSession}
+use Rattle.network.specs.Examples.{twinBytes, twinSession, twinNet}
 use Rattle.render.specs.Listing.{mostListingBytes}
 use Rattle.packed.specs.Packed.{packedOf, arityStart, faninsStart, outputsStart, excludedStart, loadedStart, currentStart, openStart, sessionWords, byteWords}
 use Rattle.boundary.specs.Boundary.{Left, loadCall, listingCall, tablesCall, allTablesCall, patternSetsCall, hiddenCall, verdictCall, exchangeCall, writeCall}
+use Rattle.boundary.specs.Promises.{Asked, wordsAfter, heard, askedLeft, roomy}
 
 -- the twin network's session, with one word behind it
 abbrev pub words : List ℕ
@@ -28,6 +29,19 @@ given l = l .number ∷ l .out
 
 abbrev pub laid : Left → List ℕ
 laid l = l .number ∷ l .buffer
+
+-- an exchange call that clears gate g
+abbrev pub asked : ℕ → List ℕ → Asked
+asked g out = record { exchange = cleared g; out = out }
+
+-- of three gates, the last with no word for `out`
+abbrev pub list : List Asked
+list = asked 1 (7 ∷ []) ∷ asked 2 (7 ∷ 7 ∷ []) ∷ asked 3 [] ∷ []
+
+-- the number and every word of out of each call, one after the other
+abbrev pub allGiven : List (ℕ × List ℕ) → List ℕ
+allGiven [] = []
+allGiven (x ∷ xs) = x .0 ∷ x .1 ++ allGiven xs
 
 abbrev pub cases : List (List ℕ × List ℕ)
 cases =
@@ -60,4 +74,15 @@ cases =
     -- the file's refusals come before the session's room
     ∷ (laid (loadCall (take 26 twinBytes) (7 ∷ [])), 1 ∷ 7 ∷ [])
     ∷ (laid (loadCall twinBytes (7 ∷ [])), 9 ∷ 7 ∷ [])
+    ∷ []
+
+-- exchange calls one after the other: each on the words that the one before left, and all of them by the loaded network alone
+abbrev pub inTurn : List (List ℕ × List ℕ)
+inTurn =
+    (allGiven (heard words (asked 1 (7 ∷ []) ∷ [])), 0 ∷ 7 ∷ [])
+    ∷ (wordsAfter words (asked 1 (7 ∷ []) ∷ []), changed)
+    ∷ (allGiven (heard changed (asked 2 (7 ∷ 7 ∷ []) ∷ [])), 13 ∷ 1 ∷ 7 ∷ [])
+    ∷ (wordsAfter changed (asked 3 [] ∷ []), changed)
+    ∷ (allGiven (map (askedLeft twinNet) list), 0 ∷ 7 ∷ 13 ∷ 1 ∷ 7 ∷ 9 ∷ [])
+    ∷ (map (λ r. r .signal) (roomy list), 1 ∷ 2 ∷ [])
     ∷ []

@@ -12,8 +12,8 @@ use Rattle.network.specs.State.{gateFault, stateFault, stateTest}
 use Rattle.network.specs.Load.{outputRecord, readOutputs, gateRecord, readGates, excludedRecord, readBody, headerRecord, readOf, loadOf}
 use Rattle.network.specs.Write.{headerBytes, excludedBytes, gateBytes, outputBytes, bytesOf}
 use Rattle.network.specs.Calls.{gateTest, tableTest, alters, closedTest, harmTest, exchangeAnswer, exchangeOf, verdictOf, tablesOf, writeOf}
-use Rattle.network.specs.Cases.{marked, worked, wide, ports, sizes, refused, readSaid, damaged}
+use Rattle.network.specs.Cases.{marked, worked, wide, multiOutput, sizes, refused, readSaid, damaged}
 
-pub cases-hold : Hold marked × Hold worked × Hold wide × Hold ports × Hold sizes × Hold refused × Hold (map readSaid damaged)
+pub cases-hold : Hold marked × Hold worked × Hold wide × Hold multiOutput × Hold sizes × Hold refused × Hold (map readSaid damaged)
 unfolding bit isGate excluded excludedFor occurs patternOrder entry values sdc cdc valuesInverted odc full harms agree constant turns freeFanins atOutputs compatibleFrom compatible compatibleCount delivers closed openTable openTables gateAt gatesOf netOf loadedNet currentNet markTest faninTest faninsTest excludedTest gateFault stateFault stateTest outputRecord readOutputs gateRecord readGates excludedRecord readBody headerRecord readOf loadOf headerBytes excludedBytes gateBytes outputBytes bytesOf gateTest tableTest alters closedTest harmTest exchangeAnswer exchangeOf verdictOf tablesOf writeOf
 cases-hold = (refl, refl, refl, refl, refl, refl, refl)

@@ -1,6 +1,6 @@
--- Cases of the definitions, each computed and held against what is stated: 01's (m) cases, document 004's
--- examples, more than 64 patterns, more than one output, refused calls, damaged files. A case is a pair: what the definitions give, and what is stated.
--- Assumes nothing.
+-- Cases of the definitions, each computed and held against what is stated: 01's (m) cases, document 004's examples, more than 64
+-- patterns, more than one output, bounds and sizes, refused calls, damaged files. A case is a pair: what the definitions give, and
+-- what is stated. Assumes nothing.
 use mathlib.Core.Bool.{Bool}
 use mathlib.Core.List.{List, [], _∷_, _++_}
 use Prim.Native.Nat.{ℕ}
@@ -17,7 +17,7 @@ use Rattle.network.specs.Load.{readOf, loadOf}
 use Rattle.network.specs.Write.{bytesOf}
 use Rattle.network.specs.Calls.{exchangeOf, verdictOf, harmTest, tablesOf, writeOf, writeAnswer}
 use Rattle.network.specs.Sessions.{after}
-use Rattle.network.specs.Examples.{twinBytes, twinSession, twinNet, chainBytes, chainSession, wideBytes, wideSession, wideNet, portsBytes, portsSession, portsNet, freeing, tourFirst, tourSecond, tour, sumOfProducts, controlThree, controlFour, observe, segment}
+use Rattle.network.specs.Examples.{twinBytes, twinSession, twinNet, chainBytes, chainSession, wideBytes, wideSession, wideNet, multiOutputBytes, multiOutputSession, multiOutputNet, freeing, tourFirst, tourSecond, tour, sumOfProducts, controlThree, controlFour, observe, segment}
 
 -- ## Words for the cases
 
@@ -132,24 +132,24 @@ wide =
 
 -- ## More than one output
 
-abbrev pub ports : List (List ℕ × List ℕ)
-ports =
+abbrev pub multiOutput : List (List ℕ × List ℕ)
+multiOutput =
     -- loaded and written
-    (numbers (loadOf portsBytes .session), numbers portsSession)
-    ∷ (bytesOf portsSession, portsBytes)
+    (numbers (loadOf multiOutputBytes .session), numbers multiOutputSession)
+    ∷ (bytesOf multiOutputSession, multiOutputBytes)
     -- with neither output nor gate behind it, the ODC and H of gate 5 are all patterns
-    ∷ (ofGate portsNet 2, 0x06 ∷ 0x0 ∷ 0x2 ∷ 0x2 ∷ 0b1010 ∷ 0b1110 ∷ [])
-    ∷ (ofGate portsNet 3, 0x06 ∷ 0x0 ∷ 0x0 ∷ 0x0 ∷ 0 ∷ 0b0100 ∷ [])
-    ∷ (ofGate portsNet 4, 0x1E ∷ 0x6 ∷ 0x6 ∷ 0x2 ∷ 0 ∷ 0b0100 ∷ [])
-    ∷ (ofGate portsNet 5, 0x09 ∷ 0x0 ∷ 0x3 ∷ 0x3 ∷ 0b1111 ∷ 0b1111 ∷ [])
+    ∷ (ofGate multiOutputNet 2, 0x06 ∷ 0x0 ∷ 0x2 ∷ 0x2 ∷ 0b1010 ∷ 0b1110 ∷ [])
+    ∷ (ofGate multiOutputNet 3, 0x06 ∷ 0x0 ∷ 0x0 ∷ 0x0 ∷ 0 ∷ 0b0100 ∷ [])
+    ∷ (ofGate multiOutputNet 4, 0x1E ∷ 0x6 ∷ 0x6 ∷ 0x2 ∷ 0 ∷ 0b0100 ∷ [])
+    ∷ (ofGate multiOutputNet 5, 0x09 ∷ 0x0 ∷ 0x3 ∷ 0x3 ∷ 0b1111 ∷ 0b1111 ∷ [])
     -- of the outputs that are harmed, the lowest is named
-    ∷ (verdictSaid portsSession [] (to 3 0), 14 ∷ 1 ∷ 3 ∷ [])
-    ∷ (verdictSaid portsSession [] (to 4 0), 14 ∷ 1 ∷ 1 ∷ [])
-    ∷ (verdictSaid portsSession [] (to 2 0), [])
-    ∷ (verdictSaid portsSession [] (to 5 2), [])
-    ∷ (exchangeSaid portsSession [] (to 3 0), 13 ∷ 1 ∷ [])
-    ∷ (exchangeSaid portsSession [] (to 2 0), [])
-    ∷ (exchangeSaid portsSession [] (to 5 2), [])
+    ∷ (verdictSaid multiOutputSession [] (to 3 0), 14 ∷ 1 ∷ 3 ∷ [])
+    ∷ (verdictSaid multiOutputSession [] (to 4 0), 14 ∷ 1 ∷ 1 ∷ [])
+    ∷ (verdictSaid multiOutputSession [] (to 2 0), [])
+    ∷ (verdictSaid multiOutputSession [] (to 5 2), [])
+    ∷ (exchangeSaid multiOutputSession [] (to 3 0), 13 ∷ 1 ∷ [])
+    ∷ (exchangeSaid multiOutputSession [] (to 2 0), [])
+    ∷ (exchangeSaid multiOutputSession [] (to 5 2), [])
     ∷ []
 
 -- ## The bounds, and the sizes that follow from them

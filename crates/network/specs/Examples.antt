@@ -111,8 +111,8 @@ wideNet = loadedNet wideSession
 
 -- several outputs: one is an input, one is named twice, one feeds a gate too; gate 5 feeds nothing. Gates 2 and 3 copy input 0,
 -- gate 4 is their OR, gate 5 inverts input 1; pattern 2 is excluded
-abbrev pub portsBytes : List ℕ
-portsBytes =
+abbrev pub multiOutputBytes : List ℕ
+multiOutputBytes =
     0x4E ∷ 0x49 ∷ 0x02 ∷ 0x04 ∷ 0x04
     ∷ 0x4E ∷ 0x58 ∷ 0x04
     ∷ 0x4E ∷ 0x47 ∷ 0x01 ∷ 0x00 ∷ 0x02 ∷ 0x00
@@ -121,10 +121,10 @@ portsBytes =
     ∷ 0x4E ∷ 0x47 ∷ 0x01 ∷ 0x01 ∷ 0x01 ∷ 0x00
     ∷ 0x4E ∷ 0x4F ∷ 0x00 ∷ 0x4E ∷ 0x4F ∷ 0x04 ∷ 0x4E ∷ 0x4F ∷ 0x04 ∷ 0x4E ∷ 0x4F ∷ 0x03 ∷ []
 
-abbrev pub portsSession : Session
-portsSession =
+abbrev pub multiOutputSession : Session
+multiOutputSession =
     held 2 4 4 (4 ∷ []) (1 ∷ 1 ∷ 2 ∷ 1 ∷ []) (replicate (gatePlaces * 2) 0 ++ 2 ∷ 3 ∷ 0 ∷ 0 ∷ 0 ∷ 0 ∷ 1 ∷ []) (0x2 ∷ 0x2 ∷ 0xE ∷ 0x1 ∷ [])
     (0x2 ∷ 0x0 ∷ 0x2 ∷ 0x3 ∷ []) (0 ∷ 4 ∷ 4 ∷ 3 ∷ [])
 
-abbrev pub portsNet : Net
-portsNet = loadedNet portsSession
+abbrev pub multiOutputNet : Net
+multiOutputNet = loadedNet multiOutputSession
