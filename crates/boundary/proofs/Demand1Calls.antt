@@ -7,7 +7,7 @@ use mathlib.Core.List.{List, [], _∷_, _++_}
 use Prim.Native.Nat.{ℕ, zero, suc, _+_, _*_, _-_, _≤_}
 use native.Mathlib.Omega.{arith}
 use lib.Dec.{eqb}
-use lib.ListN.{length, length-append, length-set}
+use lib.ListN.{length, set, length-append, length-set}
 use Rattle.bits.specs.Range.{places}
 use Rattle.bits.proofs.Ranges.{length-places}
 use Rattle.bits.proofs.Logic.{clash}
@@ -25,6 +25,7 @@ use Rattle.network.specs.State.{stateTest}
 use Rattle.network.specs.Load.{loadOf}
 use Rattle.network.specs.Write.{bytesOf}
 use Rattle.network.specs.Calls.{gateTest, tableTest, harmTest, heldClosed, exchangeTests, exchangeAnswer, verdictOf, gateTables, stored, roomTest, setWords, patternSetsOf, writeOf}
+use Rattle.network.proofs.Slots.{sized-current}
 use Rattle.network.proofs.ByTest.{Before, room-by, state-by, gate-by, table-by, closed-by, harm-by, first-by}
 use Rattle.network.proofs.Reached.{loaded-sized}
 use Rattle.render.specs.Listing.{listingOf, listingInto}
@@ -59,15 +60,8 @@ stored-room ws r e =
     let s = sessionIn ws in
     let l = words-long ws e in
     let z = words-sized ws e in
-    let n = packed-length (stored s r) (record {
-      words = z .words;
-      arities = z .arities;
-      slots = z .slots;
-      loads = z .loads;
-      currents = length-set (s .current) (r .signal - s .n) (r .table) ∙ z .currents;
-      opens = z .opens;
-      outs = z .outs;
-    }) in
+    let ts = set (s .current) (r .signal - s .n) (r .table) in
+    let n = packed-length (stored s r) (sized-current s ts (length-set (s .current) (r .signal - s .n) (r .table) ∙ z .currents) z) in
     omega arith
 
 -- there is room for a loaded session

@@ -19,8 +19,9 @@ use Rattle.network.specs.State.{stateTest}
 use Rattle.network.specs.Load.{loadDone, onward}
 use Rattle.network.specs.Calls.{roomTest}
 use Rattle.network.proofs.TestLaws.{passed, clear-e, alone, stopped, went-on}
-use Rattle.packed.specs.Packed.{sessionWords, sessionIn, bytesTest, wordsTest, unpackOf}
+use Rattle.packed.specs.Packed.{sessionWords, sessionIn, wordsTest, unpackOf}
 use Rattle.boundary.specs.Boundary.{Left, left, Work, onSession}
+use Rattle.boundary.proofs.Tested.{words-long, words-state}
 use Rattle.boundary.proofs.Names.{NamesMost, names-first, names-room, names-words}
 
 -- ## What a call leaves
@@ -95,15 +96,14 @@ module _ (work : Session → Work) (ws buffer out : List ℕ) {l : Loaded} {a : 
     pub leaves : {k : ℕ} {b o : List ℕ} → Leaves (worked (work (l .session)) buffer out) k b o → Leaves (onSession work ws buffer out) k b o
 
   pub opens : a ≡ Done → Open
-  unfolding wordsTest
   opens h =
       let c = room-passed (l .answer) (work (l .session) .room) out f h in
       let q = held ws e (c .0) in
       let s = sessionIn ws in
-      let w = clear-e (roomTest sessionWords ws ∷ bytesTest ws ∷ stateTest s ∷ []) (words-fine ws e (c .0)) in
+      let w = words-fine ws e (c .0) in
       record {
-        valid = rw q (w .1 .1 .0);
-        long = ltb-false (length ws) sessionWords (passed (ltb (length ws) sessionWords) BufferTooShort (w .0));
+        valid = rw q (words-state ws w);
+        long = words-long ws w;
         room = c .1;
         holds = q;
         leaves = λ {k} {b} {o} v.

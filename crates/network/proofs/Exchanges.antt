@@ -30,6 +30,7 @@ use Rattle.network.specs.State.{arityOf, stateFault}
 use Rattle.network.specs.Valid.{Sized, Shaped, Narrow}
 use Rattle.network.specs.Calls.{gateTest, fits, tableTest, alters, entryFound, closedTest, withCurrent, exchangeTests, heldClosed, exchangeAnswer, exchanged, exchangeOf}
 use Rattle.network.specs.Sessions.{after, answers, answerBy, took, lastAccepted, finalTables}
+use Rattle.network.proofs.Slots.{sized-current}
 use Rattle.network.proofs.Fresh.{Fresh}
 use Rattle.network.proofs.FlatGates.{arity-at, length-gates}
 use Rattle.network.proofs.TestLaws.{count-e}
@@ -307,15 +308,8 @@ module _ (s : Session) (fresh : Fresh s) where
   -- exchanges leave the lengths of a session's arrays
   pub after-sized : (rs : List Replacement) → Sized s → Sized (after s rs)
   after-sized rs z =
-      subst Sized (sym (after-is rs)) (record {
-        words = z .words;
-        arities = z .arities;
-        slots = z .slots;
-        loads = z .loads;
-        currents = length-places mostGates (λ g. lastAccepted (loadedNet s) rs (s .n + g) (getD (s .loaded) g 0));
-        opens = z .opens;
-        outs = z .outs;
-      })
+      let n = length-places mostGates (λ g. lastAccepted (loadedNet s) rs (s .n + g) (getD (s .loaded) g 0)) in
+      subst Sized (sym (after-is rs)) (sized-current s (finalTables s rs) n z)
 
   pub after-shaped : (rs : List Replacement) → Shaped s → Shaped (after s rs)
   after-shaped rs shape = record { sized = after-sized rs (shape .sized); wide = rw (after-is rs) (shape .wide) }

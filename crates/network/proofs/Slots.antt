@@ -1,4 +1,5 @@
--- What stands in the slots of a session once a gate or an output has been laid in, and that what it holds in bytes fits there. Assumes nothing.
+-- What stands in the slots of a session once a gate or an output has been laid in, or current tables; and that what it holds in
+-- bytes fits there. Assumes nothing.
 use mathlib.Core.Path.{_≡_, refl, sym, ap, _∙_}
 use mathlib.Core.List.{List, [], _∷_}
 use Prim.Native.Nat.{ℕ, zero, suc, _+_, _*_, _≤_, _<_}
@@ -18,6 +19,7 @@ use Rattle.network.specs.Tests.{faninsTest}
 use Rattle.network.specs.State.{arityOf, faninsOf}
 use Rattle.network.specs.Valid.{Sized, Narrow}
 use Rattle.network.specs.Load.{started, withGate, withOutput, withExcluded}
+use Rattle.network.specs.Calls.{withCurrent}
 use Rattle.network.proofs.TestLaws.{fanins-e}
 
 -- ## Lists
@@ -68,6 +70,17 @@ sized-output t i x z = record {
   currents = z .currents;
   opens = z .opens;
   outs = length-set (t .outputs) i x ∙ z .outs;
+}
+
+pub sized-current : (t : Session) (ts : List ℕ) → length ts ≡ mostGates → Sized t → Sized (withCurrent t ts)
+sized-current t ts h z = record {
+  words = z .words;
+  arities = z .arities;
+  slots = z .slots;
+  loads = z .loads;
+  currents = h;
+  opens = z .opens;
+  outs = z .outs;
 }
 
 -- gate i has k fan-ins fs, the loaded table lt and the current table ct
