@@ -21,6 +21,16 @@
  * else. In every other refusal each lent word and byte stays as it was. A session is written by tusqirma_load and
  * tusqirma_exchange alone, and only where they return 0.
  *
+ * Proved of these calls, for every file and every length of a buffer (docs/DEMANDS.md leads to the theorems):
+ *   - A call ends in 0 or in one of the refusals named beside it, and writes inside the buffers that it was lent.
+ *   - After a load and any list of exchanges, refused ones included, a gate set several times or set back: every output on
+ *     every pattern not excluded stays that of the loaded network, and each gate has the table of its last accepted
+ *     exchange, or the loaded one. No call refuses such a session with 10. Neighbours at different gates may be swapped.
+ *   - An exchange at a gate, with a table that fits, is refused exactly when it alters a closed entry of the loaded
+ *     table; one that is accepted is harmless, so a verdict on it would have said so.
+ *   - A verdict finds harm exactly when some pattern that is not excluded changes an output.
+ *   - A network written and loaded again is the same network.
+ *
  * Order of the tests. tusqirma_load: 1 to 8, then 9. The calls on a session: 9 for a session of fewer than 427 words, 10,
  * 9 for any other buffer, then 11, 12, and 13 or 14. tusqirma_listing: 9 only.
  */
@@ -136,8 +146,7 @@ uint64_t tusqirma_verdict(const uint64_t *session, size_t session_len, size_t ga
 
 /*
  * Sets the current table of one gate. Refused with 13 where the table differs from the loaded one at an entry that is
- * not open; out[0] is then the smallest such entry. `out` has 1 word, and keeps it in every other outcome. Whatever is
- * exchanged after a load, each output stays as loaded at each pattern that is not excluded.
+ * not open; out[0] is then the smallest such entry. `out` has 1 word, and keeps it in every other outcome.
  * Refusals 9, 10, 11, 12, 13.
  */
 uint64_t tusqirma_exchange(uint64_t *session, size_t session_len, size_t gate, uint64_t table, uint64_t *out, size_t out_len);

@@ -1,5 +1,6 @@
 //! Don't-care tables of gate networks, verdicts on a lone replacement, and sessions of exchanges: safe calls of the
-//! static library that `include/tusqirma.h` describes, which also says what signals, patterns and tables are.
+//! static library that `include/tusqirma.h` describes, which also says what signals, patterns and tables are, and what
+//! is proved.
 //!
 //! A one in the excluded set means that the pattern **never** comes.
 //!

@@ -33,6 +33,8 @@ use Rattle.network.proofs.Reached.{loaded-sized}
 use Rattle.network.proofs.Harm.{harm-only, harm-none, harm-at, verdict-is}
 use Rattle.network.proofs.ByTest.{Before}
 use Rattle.render.specs.Listing.{listingOf, listingInto}
+use Rattle.engine.specs.Demands.{Changes}
+use Rattle.engine.proofs.Demands.{demand2}
 use Rattle.roundtrip.proofs.RoundTrip.{round-trip}
 use Rattle.packed.specs.Packed.{packedOf, excludedStart, sessionWords, part, sessionIn, wordsTest}
 use Rattle.packed.proofs.Inverse.{packed-back}
@@ -95,6 +97,11 @@ write-gives ws file out v o b = fill-given ws v 1 (length (bytesOf (sessionIn ws
 
 -- ## Verdicts
 
+-- the number that a call returns is the first that its answer says
+pub number-said : (a : Answer) → numberFor a ≡ getD (said a) 0 0
+number-said Done = refl
+number-said (Refused r) = refl
+
 module _ (ws : List ℕ) (r : Replacement) (out : List ℕ) (j : Asks ws r) (o : 2 ≤ length out) where
   abbrev L : Net
   L = loadedNet (sessionIn ws)
@@ -141,6 +148,19 @@ module _ (ws : List ℕ) (r : Replacement) (out : List ℕ) (j : Asks ws r) (o :
         let n : _≡_ {A = ℕ} 14 0 = sym (ap numberFor (f .2)) ∙ ap (λ (l : Left). l .number) e in
         let z : ⊥ = omega arith in
         absurd z) only
+
+  harmful-is : (verdictCall ws r out .number ≡ 14) ↔ ((x : ℕ) × (i : ℕ) × Changes (sessionIn ws) r x i)
+  harmful-is =
+      let s = sessionIn ws in
+      let v = words-state ws (j .0) in
+      let h = demand2 .harmful s r (v, j .1, j .2) in
+      let e = verdict-is s r v (j .1) (j .2) in
+      let n = ap (λ (l : Left). l .number) judged in (
+        λ k. ⊎-elim (λ d. let z : _≡_ {A = ℕ} 0 14 = sym (ap numberFor d) ∙ sym n ∙ k in absurd (omega arith))
+            (λ f. h .0 (f .0, f .1, ap said (e ∙ f .2))) (harm-only L M),
+        λ c. let f = h .1 c in
+            n ∙ number-said (harmTest L M) ∙ ap (λ (l : List ℕ). getD l 0 0) (ap said (sym e) ∙ f .2),
+      )
 
   shown-is : (x i : ℕ) → (verdictCall ws r out ≡ record { number = 14; buffer = []; out = overwritten (x ∷ i ∷ []) out }) ↔ FirstHarm L M x i
   shown-is x i = (
@@ -216,6 +236,7 @@ demand2-calls = record {
   patternSets = λ ws words v. let s = sessionIn ws in fill-given ws v 0 [] (setWords s (s .m)) words [] refl (omega arith);
   hidden = λ ws out v. let s = sessionIn ws in room-given ws v (s .m) (hiddenCounts s) out (hidden-length s);
   write = write-gives;
+  harmful = harmful-is;
   shown = λ ws r out x i j o. shown-is ws r out j o x i;
   harmless = harmless-is;
   roundTrip = round-trips;

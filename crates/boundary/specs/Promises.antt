@@ -1,4 +1,5 @@
--- The three demands of the calls for other languages, on any lent words and bytes. Assumes nothing.
+-- The user's three demands of the calls for other languages, on any lent words and bytes. A call of crate `capi` leaves what its
+-- definition in Boundary.antt says: `tusqirma_load` what `loadCall` says, and so on. Assumes nothing.
 use mathlib.Core.Path.{_≡_}
 use mathlib.Core.Logic.{_⊎_, _↔_, _≢_}
 use mathlib.Core.Bool.{true, false, cond}
@@ -8,10 +9,11 @@ use lib.Dec.{ltb}
 use lib.ListN.{length, getD, take, drop}
 use Rattle.bits.specs.Range.{places}
 use Rattle.bits.specs.Lists.{overwritten}
+use Rattle.bits.specs.Bit.{bit}
 use Rattle.network.specs.declared.Session.{Session}
 use Rattle.network.specs.declared.Answer.{Answer}
 use Rattle.network.specs.declared.Answer.the-variants.{Done}
-use Rattle.network.specs.Net.{Net, isGate, patterns, excludedFor, output, Replacement, replaced}
+use Rattle.network.specs.Net.{Net, isGate, entries, patterns, excludedFor, output, Replacement, replaced}
 use Rattle.network.specs.DontCares.{sdc, cdc, full}
 use Rattle.network.specs.Compatible.{compatibleCount, openTable}
 use Rattle.network.specs.Flat.{loadedNet, currentNet}
@@ -19,13 +21,15 @@ use Rattle.network.specs.Refusals.{said}
 use Rattle.network.specs.Tests.{member, first}
 use Rattle.network.specs.Load.{loadOf, loadDone}
 use Rattle.network.specs.Write.{bytesOf}
-use Rattle.network.specs.Calls.{fits, gateTables, stored, roomTest, setWords}
+use Rattle.network.specs.Calls.{fits, alters, gateTables, stored, roomTest, setWords}
 use Rattle.network.specs.Sessions.{after, answerBy, NoHarm, FirstHarm, Demand3}
+use Rattle.engine.specs.Demands.{Changes}
 use Rattle.render.specs.Listing.{listingOf}
 use Rattle.packed.specs.Packed.{packedOf, sessionWords, sessionIn, wordsTest}
 use Rattle.boundary.specs.Boundary.{Left, tableWords, allTableWords, loadCall, listingCall, tablesCall, allTablesCall, patternSetsCall, hiddenCall, verdictCall, exchangeCall, writeCall}
 
--- ## Demand 1
+-- ## Demand 1: for every file, buffer, table and session state, a call ends in one of the listed outcomes, or in a numbered refusal
+-- that changes neither state nor lent buffer
 
 -- 0: `new` stands at the start of the buffer and `given` at the start of `out`, and there was room for both
 abbrev pub Gives : Left → (new buffer given out : List ℕ) → Type 0
@@ -45,31 +49,39 @@ abbrev pub Ends : Left → (new buffer given out numbers : List ℕ) → Type 0
 Ends l new buffer given out numbers = Gives l new buffer given out ⊎ Refuses l numbers buffer out
 
 pub record Demand1Calls : Type 0 where
+  -- a loaded network
   pub load : (file session : List ℕ)
       → Ends (loadCall file session) (packedOf (loadOf file .session)) session [] [] (1 ∷ 2 ∷ 3 ∷ 4 ∷ 5 ∷ 6 ∷ 7 ∷ 8 ∷ 9 ∷ [])
+  -- a listing, with its length
   pub listing : (file text out : List ℕ) → Ends (listingCall file text out) (listingOf file) text (length (listingOf file) ∷ []) out (9 ∷ [])
+  -- the tables of a gate, and of all gates
   pub tables : (ws : List ℕ) (gate : ℕ) (out : List ℕ) → Ends (tablesCall ws gate out) [] [] (tableWords (gateTables (sessionIn ws) gate)) out (9 ∷ 10 ∷ 11 ∷ [])
   pub allTables : (ws out : List ℕ) → Ends (allTablesCall ws out) [] [] (allTableWords (sessionIn ws) (sessionIn ws .m)) out (9 ∷ 10 ∷ [])
+  -- filled pattern words
   pub patternSets : (ws words : List ℕ) → Ends (patternSetsCall ws words) (setWords (sessionIn ws) (sessionIn ws .m)) words [] [] (9 ∷ 10 ∷ [])
+  -- the number of patterns in H of each gate
   pub hidden : (ws out : List ℕ) → Ends (hiddenCall ws out) [] [] (places (sessionIn ws .m) (λ g. compatibleCount (loadedNet (sessionIn ws)) (sessionIn ws .n + g))) out (9 ∷ 10 ∷ [])
+  -- a written file, with its length
   pub write : (ws file out : List ℕ) → Ends (writeCall ws file out) (bytesOf (sessionIn ws)) file (length (bytesOf (sessionIn ws)) ∷ []) out (9 ∷ 10 ∷ [])
-  -- 14 names pattern and output
+  -- a verdict: harmless, or else 14 names pattern and output
   pub verdict : (ws : List ℕ) (r : Replacement) (out : List ℕ) → let l = verdictCall ws r out in
       Gives l [] [] [] out ⊎ (Refuses l (9 ∷ 10 ∷ 11 ∷ 12 ∷ []) [] out ⊎ ((x : ℕ) × (i : ℕ) × Names l 14 (x ∷ i ∷ []) [] out))
-  -- 13 names the entry
+  -- an exchanged gate; 13 names the entry
   pub exchange : (ws : List ℕ) (r : Replacement) (out : List ℕ) → let l = exchangeCall ws r out in
       Gives l (packedOf (stored (sessionIn ws) r)) ws [] out ⊎ (Refuses l (9 ∷ 10 ∷ 11 ∷ 12 ∷ []) ws out ⊎ ((t : ℕ) × Names l 13 (t ∷ []) ws out))
 
--- ## Demand 2
+-- ## Demand 2: the tables are 01's, a lone replacement is judged exactly, and a network written and read again is the same
 
+-- each fits a word
 abbrev pub Words : List ℕ → Type 0
 Words ws = (i : ℕ) → getD ws i 0 < 2 ^ 64
 
--- the words hold a session, and 11 and 12 do not come
+-- 9 and 10 do not refuse the words, nor 11 and 12 the replacement
 abbrev pub Asks : List ℕ → Replacement → Type 0
 Asks ws r = (wordsTest ws ≡ Done) × (isGate (loadedNet (sessionIn ws)) (r .signal) ≡ true) × (fits (loadedNet (sessionIn ws)) r ≡ true)
 
 pub record Demand2Calls : Type 0 where
+  -- wherever it can, a call gives what 01 defines
   pub load : (file session : List ℕ) → loadOf file .answer ≡ Done → sessionWords ≤ length session
       → Gives (loadCall file session) (packedOf (loadOf file .session)) session [] []
   pub listing : (file text out : List ℕ) → 1 ≤ length out → length (listingOf file) ≤ length text
@@ -84,25 +96,31 @@ pub record Demand2Calls : Type 0 where
       → Gives (hiddenCall ws out) [] [] (places (sessionIn ws .m) (λ g. compatibleCount (loadedNet (sessionIn ws)) (sessionIn ws .n + g))) out
   pub write : (ws file out : List ℕ) → wordsTest ws ≡ Done → 1 ≤ length out → length (bytesOf (sessionIn ws)) ≤ length file
       → Gives (writeCall ws file out) (bytesOf (sessionIn ws)) file (length (bytesOf (sessionIn ws)) ∷ []) out
+  -- a lone replacement is found harmful exactly when some pattern that is not excluded changes an output
+  pub harmful : (ws : List ℕ) (r : Replacement) (out : List ℕ) → Asks ws r → 2 ≤ length out
+      → (verdictCall ws r out .number ≡ 14) ↔ ((x : ℕ) × (i : ℕ) × Changes (sessionIn ws) r x i)
+  -- the smallest such pattern and, there, the lowest output are shown
   pub shown : (ws : List ℕ) (r : Replacement) (out : List ℕ) (x i : ℕ) → Asks ws r → 2 ≤ length out
       → (verdictCall ws r out ≡ record { number = 14; buffer = []; out = overwritten (x ∷ i ∷ []) out })
       ↔ FirstHarm (loadedNet (sessionIn ws)) (replaced (currentNet (sessionIn ws)) (r ∷ [])) x i
+  -- and else it is found harmless
   pub harmless : (ws : List ℕ) (r : Replacement) (out : List ℕ) → Asks ws r → 2 ≤ length out
       → (verdictCall ws r out ≡ record { number = 0; buffer = []; out = out })
       ↔ NoHarm (loadedNet (sessionIn ws)) (replaced (currentNet (sessionIn ws)) (r ∷ [])) (patterns (loadedNet (sessionIn ws)))
+  -- a network written and read again is the same network
   pub roundTrip : (ws file out session : List ℕ) → Words ws → writeCall ws file out .number ≡ 0 → sessionWords ≤ length session
       → let w = writeCall ws file out in
       let l = loadCall (take (getD (w .out) 0 0) (w .buffer)) session in
       (l .number ≡ 0) × (loadedNet (sessionIn (l .buffer)) ≡ currentNet (sessionIn ws)) × (currentNet (sessionIn (l .buffer)) ≡ currentNet (sessionIn ws))
 
--- ## Demand 3
+-- ## Demand 3: of every list of exchange calls, refused ones included, each on the words that the one before left
 
 -- an exchange call: what is asked, and the words lent as `out`
 pub record Asked : Type 0 where
   pub exchange : Replacement
   pub out : List ℕ
 
--- each gets the words that the one before left
+-- the words after the calls
 abbrev pub wordsAfter : List ℕ → List Asked → List ℕ
 wordsAfter ws [] = ws
 wordsAfter ws (a ∷ list) = wordsAfter (exchangeCall ws (a .exchange) (a .out) .buffer) list
@@ -131,13 +149,17 @@ pub record Holds (ws : List ℕ) (s : Session) : Type 0 where
   pub passes : wordsTest ws ≡ Done
 
 pub record Demand3Calls (ws : List ℕ) (s : Session) (list : List Asked) : Type 0 where
+  -- the loaded network, the gate's number, the new table and the room for a named entry alone fix what a call leaves
   pub answered : heard ws list ≡ map (askedLeft (loadedNet s)) list
-  -- the words behind a session stay
+  -- the words are those of the session after the exchanges; the words behind a session stay
   pub words : wordsAfter ws list ≡ overwritten (packedOf (after s (roomy list))) ws
   pub long : length (wordsAfter ws list) ≡ length ws
+  -- no call refuses them with 10
   pub holds : Holds (wordsAfter ws list) (after s (roomy list))
+  -- every output on every pattern not excluded stays that of the loaded network
   pub outputs : (x i : ℕ) → x < patterns (loadedNet s) → i < s .p → excludedFor (loadedNet s) i x ≡ false
       → output (currentNet (sessionIn (wordsAfter ws list))) x i ≡ output (loadedNet s) x i
+  -- neighbours at different gates swap
   pub swap : (before behind : List Asked) (a b : Asked) → list ≡ before ++ a ∷ b ∷ behind → a .exchange .signal ≢ b .exchange .signal
       → wordsAfter ws (before ++ b ∷ a ∷ behind) ≡ wordsAfter ws list
 
@@ -155,6 +177,11 @@ pub record AfterCalls (ws : List ℕ) (s : Session) (list : List Asked) : Type 0
       → let C = currentNet (after s (roomy list)) in
       tablesCall (wordsAfter ws list) g out
       ≡ record { number = 0; buffer = []; out = overwritten (sdc C g ∷ cdc C g ∷ full C g ∷ openTable (loadedNet s) g ∷ []) out }
+  -- rule 4: a lone replacement is found harmless exactly when it alters, of the loaded table, only entries of the full table
+  pub rule4 : (r : Replacement) (v : List ℕ) → isGate (loadedNet s) (r .signal) ≡ true → fits (loadedNet s) r ≡ true → 2 ≤ length v
+      → (verdictCall (wordsAfter ws list) r v .number ≡ 0)
+      ↔ ((t : ℕ) → t < entries (loadedNet s) (r .signal) → alters (loadedNet s) r t ≡ true
+      → bit (full (currentNet (after s (roomy list))) (r .signal)) t ≡ true)
   -- what an exchange call accepts, a verdict call finds harmless
   pub acceptedHarmless : (r : Replacement) (o v : List ℕ) → 2 ≤ length v
       → exchangeCall (wordsAfter ws list) r o .number ≡ 0 → verdictCall (wordsAfter ws list) r v .number ≡ 0
