@@ -27,7 +27,8 @@ use Rattle.network.proofs.Inside.{rule4-loaded, accepted-harmless}
 use Rattle.engine.proofs.Demands.{demand1}
 use Rattle.boundary.specs.Boundary.{numberFor, tableWords, tablesCall, verdictCall}
 use Rattle.boundary.specs.Promises.{Asked, wordsAfter, roomy, Holds, AfterCalls, AfterCallsOf}
-use Rattle.boundary.proofs.Demand2Calls.{number-said, demand2-calls}
+use Rattle.boundary.proofs.Names.{number-said}
+use Rattle.boundary.proofs.Demand2Calls.{demand2-calls}
 use Rattle.boundary.proofs.Demand3Calls.{Ready, demand3-calls, call-after, loaded-ready}
 
 -- ## An exchange that is accepted

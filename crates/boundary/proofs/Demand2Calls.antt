@@ -40,6 +40,7 @@ use Rattle.packed.specs.Packed.{packedOf, excludedStart, sessionWords, part, se
 use Rattle.packed.proofs.Inverse.{packed-back}
 use Rattle.boundary.specs.Boundary.{Left, numberFor, left, tableWords, allTableWords, writeWork, loadCall, listingCall, tablesCall, allTablesCall, patternSetsCall, hiddenCall, verdictCall, writeCall}
 use Rattle.boundary.specs.Promises.{Gives, Words, Asks, Demand2Calls}
+use Rattle.boundary.proofs.Names.{number-said}
 use Rattle.boundary.proofs.Tested.{room-i, session-by, fillAnswer, fill-by, words-state, words-sized}
 use Rattle.boundary.proofs.Demand1Calls.{tables-length, hiddenCounts, hidden-length, loaded-room}
 
@@ -96,11 +97,6 @@ unfolding writeCall writeOf
 write-gives ws file out v o b = fill-given ws v 1 (length (bytesOf (sessionIn ws)) ∷ []) (bytesOf (sessionIn ws)) file out refl o b
 
 -- ## Verdicts
-
--- the number that a call returns is the first that its answer says
-pub number-said : (a : Answer) → numberFor a ≡ getD (said a) 0 0
-number-said Done = refl
-number-said (Refused r) = refl
 
 module _ (ws : List ℕ) (r : Replacement) (out : List ℕ) (j : Asks ws r) (o : 2 ≤ length out) where
   abbrev L : Net

@@ -35,6 +35,7 @@ use Rattle.packed.specs.Packed.{packedOf, sessionWords}
 use Rattle.packed.proofs.Inverse.{packed-length, packed-back, unpack-answer, repacked, unpacks}
 use Rattle.boundary.specs.Boundary.{numberFor, valuesFor, Left, left, loadCall, exchangeCall}
 use Rattle.boundary.specs.Promises.{Asked, wordsAfter, heard, askedAnswer, askedLeft, roomy, Holds, Demand3Calls, Demand3OfCalls}
+use Rattle.boundary.proofs.Names.{number-said, values-said}
 
 -- ## Words laid over others
 
@@ -163,11 +164,9 @@ module _ {N : Net} {ws : List ℕ} {s : Session} (h : Holds ws s) (y : Steady N 
 
 -- number and `out` in 01's numbers
 asked-left : (N : Net) (a : Asked) → (numberFor (askedAnswer N a), overwritten (valuesFor (askedAnswer N a) []) (a .out)) ≡ askedLeft N a
-asked-left N a = go (askedAnswer N a) refl
-  where
-    go : (b : Answer) → askedAnswer N a ≡ b → (numberFor (askedAnswer N a), overwritten (valuesFor (askedAnswer N a) []) (a .out)) ≡ askedLeft N a
-    go Done e = rw e
-    go (Refused f) e = rw e
+asked-left N a =
+    let b = askedAnswer N a in
+    ap₂ (λ (n : ℕ) (values : List ℕ). (n, overwritten values (a .out))) (number-said b) (values-said b)
 
 -- ## A list of exchange calls
 

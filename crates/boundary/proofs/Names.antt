@@ -1,16 +1,17 @@
--- How many values an answer names: 13 names one, 14 two, and no other refusal any. Assumes nothing.
+-- What a call leaves by what its answer says; and how many values an answer names: 13 one, 14 two, and no other refusal any.
+-- Assumes nothing.
 use mathlib.Core.Path.{_≡_, refl}
 use mathlib.Core.List.{List, []}
 use Prim.Native.Nat.{ℕ, _≤_}
 use native.Mathlib.Omega.{arith}
-use lib.ListN.{length}
+use lib.ListN.{length, getD, drop}
 use Rattle.bits.proofs.Logic.{clash}
 use Rattle.network.specs.declared.Session.{Session}
 use Rattle.network.specs.declared.Refusal.{Refusal}
 use Rattle.network.specs.declared.Answer.{Answer}
-use Rattle.network.specs.declared.Answer.the-variants.{Refused}
+use Rattle.network.specs.declared.Answer.the-variants.{Done, Refused}
 use Rattle.network.specs.Net.{Net, Replacement}
-use Rattle.network.specs.Refusals.{valuesOf}
+use Rattle.network.specs.Refusals.{valuesOf, said}
 use Rattle.network.specs.Tests.{first}
 use Rattle.network.specs.State.{stateTest}
 use Rattle.network.specs.Calls.{gateTest, tableTest, roomTest}
@@ -19,8 +20,17 @@ use Rattle.network.proofs.ByTest.{room-by, state-by, gate-by, table-by, Each, f
 use Rattle.engine.specs.Demands.{Numbered}
 use Rattle.engine.proofs.Outcomes.{file}
 use Rattle.packed.specs.Packed.{wordsTest}
-use Rattle.boundary.specs.Boundary.{valuesFor}
+use Rattle.boundary.specs.Boundary.{numberFor, valuesFor}
 use Rattle.boundary.proofs.Tested.{words-by}
+
+-- the number that a call returns is the first that its answer says, and what it names is the rest
+pub number-said : (a : Answer) → numberFor a ≡ getD (said a) 0 0
+number-said Done = refl
+number-said (Refused r) = refl
+
+pub values-said : (a : Answer) → valuesFor a [] ≡ drop 1 (said a)
+values-said Done = refl
+values-said (Refused r) = refl
 
 -- it names at most k values
 abbrev pub NamesMost : ℕ → Answer → Type 0
