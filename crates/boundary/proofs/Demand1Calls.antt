@@ -33,14 +33,14 @@ use Rattle.engine.proofs.Outcomes.{file}
 use Rattle.engine.proofs.Demands.{demand1}
 use Rattle.packed.specs.Packed.{packedOf, sessionWords, sessionIn, wordsTest}
 use Rattle.packed.proofs.Inverse.{packed-length}
-use Rattle.boundary.specs.Boundary.{left, tableWords, tablesWork, allTableWords, verdictWork, exchangeWork, loadAnswer, loadCall, listingCall, tablesCall, allTablesCall, patternSetsCall, hiddenCall, verdictCall, exchangeCall, writeCall}
+use Rattle.boundary.specs.Boundary.{left, tableWords, tablesRoom, tablesWork, allTableWords, verdictWork, exchangeWork, loadAnswer, loadCall, listingCall, tablesCall, allTablesCall, patternSetsCall, hiddenCall, verdictCall, exchangeCall, writeCall}
 use Rattle.boundary.specs.Promises.{Gives, Refuses, Names, Ends, Demand1Calls}
 use Rattle.boundary.proofs.Names.{nameless}
 use Rattle.boundary.proofs.Tested.{session-by, fillAnswer, Filling, fill-by, words-long, words-sized}
 
 -- ## Lengths
 
-pub tables-length : (s : Session) (g : ℕ) → length (allTableWords s g) ≡ 4 * g
+pub tables-length : (s : Session) (g : ℕ) → length (allTableWords s g) ≡ tablesRoom * g
 tables-length s zero = refl
 tables-length s (suc g) =
     let h = tables-length s g in
@@ -190,7 +190,7 @@ demand1-calls = record {
   load = load-ends;
   listing = listing-ends;
   tables = tables-end;
-  allTables = λ ws out. let s = sessionIn ws in room-ends ws (4 * s .m) (allTableWords s (s .m)) out (tables-length s (s .m));
+  allTables = λ ws out. let s = sessionIn ws in room-ends ws (tablesRoom * s .m) (allTableWords s (s .m)) out (tables-length s (s .m));
   patternSets = λ ws words. let s = sessionIn ws in fills-end ws 0 [] (setWords s (s .m)) words [] refl;
   hidden = λ ws out. let s = sessionIn ws in room-ends ws (s .m) (hiddenCounts s) out (hidden-length s);
   write = λ ws file out. let s = sessionIn ws in fills-end ws 1 (length (bytesOf s) ∷ []) (bytesOf s) file out refl;

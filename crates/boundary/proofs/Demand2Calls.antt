@@ -38,7 +38,7 @@ use Rattle.engine.proofs.Demands.{demand2}
 use Rattle.roundtrip.proofs.RoundTrip.{round-trip}
 use Rattle.packed.specs.Packed.{packedOf, excludedStart, sessionWords, part, sessionIn, wordsTest}
 use Rattle.packed.proofs.Inverse.{packed-back}
-use Rattle.boundary.specs.Boundary.{Left, numberFor, left, tableWords, allTableWords, writeWork, loadCall, listingCall, tablesCall, allTablesCall, patternSetsCall, hiddenCall, verdictCall, writeCall}
+use Rattle.boundary.specs.Boundary.{Left, numberFor, left, tableWords, tablesRoom, allTableWords, writeWork, loadCall, listingCall, tablesCall, allTablesCall, patternSetsCall, hiddenCall, verdictCall, writeCall}
 use Rattle.boundary.specs.Promises.{Gives, Words, Asks, Demand2Calls}
 use Rattle.boundary.proofs.Names.{number-said}
 use Rattle.boundary.proofs.Tested.{room-i, session-by, fillAnswer, fill-by, words-state, words-sized}
@@ -228,7 +228,7 @@ demand2-calls = record {
   load = load-gives;
   listing = listing-gives;
   tables = λ ws gate out v. tables-given ws v gate out;
-  allTables = λ ws out v. let s = sessionIn ws in room-given ws v (4 * s .m) (allTableWords s (s .m)) out (tables-length s (s .m));
+  allTables = λ ws out v. let s = sessionIn ws in room-given ws v (tablesRoom * s .m) (allTableWords s (s .m)) out (tables-length s (s .m));
   patternSets = λ ws words v. let s = sessionIn ws in fill-given ws v 0 [] (setWords s (s .m)) words [] refl (omega arith);
   hidden = λ ws out v. let s = sessionIn ws in room-given ws v (s .m) (hiddenCounts s) out (hidden-length s);
   write = write-gives;

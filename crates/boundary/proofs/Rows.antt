@@ -10,14 +10,13 @@ use Rattle.bits.specs.Lists.{overwritten}
 use Rattle.buffer.specs.Laid.{Laid}
 use Rattle.buffer.proofs.Laying.{laid-append, laid-length, laid-start}
 use Rattle.network.specs.declared.Session.{Session}
-use Rattle.network.specs.Bounds.{mostFanins}
 use Rattle.network.specs.DontCares.{sdc}
 use Rattle.network.specs.Flat.{currentNet}
 use Rattle.dontcares.specs.Tabled.{Tabled}
 use Rattle.boundary.specs.Boundary.{allTableWords, tablesRoom}
 
 module _ (s : Session) (g : ℕ) {b b₁ : List ℕ} (l : Laid b 0 (allTableWords s g) b₁ (tablesRoom * g)) where
-  pub row-room : g < s .m → tablesRoom * s .m ≤ length b → tablesRoom * g + mostFanins ≤ length b₁
+  pub row-room : g < s .m → tablesRoom * s .m ≤ length b → tablesRoom * g + tablesRoom ≤ length b₁
   row-room h r = let n = laid-length l in omega arith
 
   pub row-next : {cdcs fulls b₂ : List ℕ} {d : ℕ} → Tabled (currentNet s) cdcs fulls (s .n) 0 (s .m) → g < s .m → d ≡ sdc (currentNet s) (s .n + g)

@@ -55,14 +55,17 @@ pub record Demand1Calls : Type 0 where
   -- a listing, with its length
   pub listing : (file text out : List ℕ) → Ends (listingCall file text out) (listingOf file) text (length (listingOf file) ∷ []) out (9 ∷ [])
   -- the tables of a gate, and of all gates
-  pub tables : (ws : List ℕ) (gate : ℕ) (out : List ℕ) → Ends (tablesCall ws gate out) [] [] (tableWords (gateTables (sessionIn ws) gate)) out (9 ∷ 10 ∷ 11 ∷ [])
+  pub tables : (ws : List ℕ) (gate : ℕ) (out : List ℕ)
+      → Ends (tablesCall ws gate out) [] [] (tableWords (gateTables (sessionIn ws) gate)) out (9 ∷ 10 ∷ 11 ∷ [])
   pub allTables : (ws out : List ℕ) → Ends (allTablesCall ws out) [] [] (allTableWords (sessionIn ws) (sessionIn ws .m)) out (9 ∷ 10 ∷ [])
   -- filled pattern words
   pub patternSets : (ws words : List ℕ) → Ends (patternSetsCall ws words) (setWords (sessionIn ws) (sessionIn ws .m)) words [] [] (9 ∷ 10 ∷ [])
   -- the number of patterns in H of each gate
-  pub hidden : (ws out : List ℕ) → Ends (hiddenCall ws out) [] [] (places (sessionIn ws .m) (λ g. compatibleCount (loadedNet (sessionIn ws)) (sessionIn ws .n + g))) out (9 ∷ 10 ∷ [])
+  pub hidden : (ws out : List ℕ)
+      → Ends (hiddenCall ws out) [] [] (places (sessionIn ws .m) (λ g. compatibleCount (loadedNet (sessionIn ws)) (sessionIn ws .n + g))) out (9 ∷ 10 ∷ [])
   -- a written file, with its length
-  pub write : (ws file out : List ℕ) → Ends (writeCall ws file out) (bytesOf (sessionIn ws)) file (length (bytesOf (sessionIn ws)) ∷ []) out (9 ∷ 10 ∷ [])
+  pub write : (ws file out : List ℕ)
+      → Ends (writeCall ws file out) (bytesOf (sessionIn ws)) file (length (bytesOf (sessionIn ws)) ∷ []) out (9 ∷ 10 ∷ [])
   -- a verdict: harmless, or else 14 names pattern and output
   pub verdict : (ws : List ℕ) (r : Replacement) (out : List ℕ) → let l = verdictCall ws r out in
       Gives l [] [] [] out ⊎ (Refuses l (9 ∷ 10 ∷ 11 ∷ 12 ∷ []) [] out ⊎ ((x : ℕ) × (i : ℕ) × Names l 14 (x ∷ i ∷ []) [] out))
@@ -187,4 +190,5 @@ pub record AfterCalls (ws : List ℕ) (s : Session) (list : List Asked) : Type 0
       → exchangeCall (wordsAfter ws list) r o .number ≡ 0 → verdictCall (wordsAfter ws list) r v .number ≡ 0
 
 abbrev pub AfterCallsOf : Type 0
-AfterCallsOf = (file session : List ℕ) (list : List Asked) → loadCall file session .number ≡ 0 → AfterCalls (loadCall file session .buffer) (loadOf file .session) list
+AfterCallsOf = (file session : List ℕ) (list : List Asked) → loadCall file session .number ≡ 0
+    → AfterCalls (loadCall file session .buffer) (loadOf file .session) list
