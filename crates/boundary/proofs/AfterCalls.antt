@@ -1,45 +1,37 @@
--- After a load and any list of exchange calls: the tables that a call gives are 01's, and an exchange that a call accepts is found
--- harmless by a call. Over words that hold a session as a reader leaves it, and so of every file that loads. Assumes nothing.
-use mathlib.Core.Path.{_≡_, refl, sym, ap, ap₂, _∙_}
-use mathlib.Core.Logic.{⊎-elim, _↔_}
-use mathlib.Core.Bool.{Bool, true, false}
+-- After a load and any list of exchange calls: the tables that a call gives are 01's, a verdict call goes by rule 4, and it finds
+-- harmless what an exchange call accepts. Over words that hold a session as a reader leaves it, and so of every file that loads.
+-- Assumes nothing.
+use mathlib.Core.Path.{_≡_, sym, ap, ap₂, _∙_}
+use mathlib.Core.Logic.{_↔_}
+use mathlib.Core.Bool.{true}
 use mathlib.Core.List.{List, [], _∷_}
 use Prim.Native.Nat.{ℕ, _≤_}
-use native.Mathlib.Omega.{arith}
-use lib.Dec.{ltb}
 use lib.ListN.{length, getD}
 use borrow.Author.Tests.{le-ltb}
 use Rattle.bits.specs.Lists.{overwritten}
-use Rattle.bits.proofs.Logic.{clash}
 use Rattle.network.specs.declared.Session.{Session}
-use Rattle.network.specs.declared.Refusal.the-variants.{BufferTooShort}
 use Rattle.network.specs.declared.Answer.{Answer}
 use Rattle.network.specs.Net.{Net, isGate, Replacement}
 use Rattle.network.specs.DontCares.{sdc, cdc, full}
 use Rattle.network.specs.Flat.{loadedNet, currentNet}
-use Rattle.network.specs.Refusals.{numberOf, said}
-use Rattle.network.specs.Tests.{refuseIf, first}
+use Rattle.network.specs.Refusals.{said}
+use Rattle.network.specs.Tests.{first}
 use Rattle.network.specs.Calls.{verdictOf, gateTables, roomTest}
 use Rattle.network.specs.Sessions.{after, answerBy}
-use Rattle.network.proofs.TestLaws.{alone}
-use Rattle.network.proofs.Exchanges.{no-gate, too-wide, closes, accepts, Cause, answer-because, after-loaded, after-open}
+use Rattle.network.proofs.TestLaws.{alone, clear-e}
+use Rattle.network.proofs.Exchanges.{after-loaded, after-open}
 use Rattle.network.proofs.Inside.{rule4-loaded, accepted-harmless}
-use Rattle.engine.proofs.Demands.{demand1}
 use Rattle.boundary.specs.Boundary.{numberFor, tableWords, tablesCall, verdictCall}
-use Rattle.boundary.specs.Promises.{Asked, wordsAfter, roomy, Holds, AfterCalls, AfterCallsOf}
-use Rattle.boundary.proofs.Names.{number-said}
+use Rattle.boundary.specs.Promises.{Asked, wordsAfter, askedAnswer, roomy, Holds, AfterCalls, AfterCallsOf}
+use Rattle.boundary.proofs.Names.{number-said, zero-done}
 use Rattle.boundary.proofs.Demand2Calls.{demand2-calls}
 use Rattle.boundary.proofs.Demand3Calls.{Ready, demand3-calls, call-after, loaded-ready}
 
 -- ## An exchange that is accepted
 
 -- an exchange call gives 0 only where the exchange is accepted
-accepted : (N : Net) (r : Replacement) (short : Bool) (a : Answer) → Cause N r a → numberFor (first (refuseIf short BufferTooShort ∷ a ∷ [])) ≡ 0 → said a ≡ []
-accepted N r true a c k = let z : ⊥ = omega arith in absurd z
-accepted N r false _ (no-gate p) k = let z : ⊥ = omega arith in absurd z
-accepted N r false _ (too-wide p q) k = let z : ⊥ = omega arith in absurd z
-accepted N r false _ (closes t p q w) k = let z : ⊥ = omega arith in absurd z
-accepted N r false _ (accepts p q w) k = refl
+accepted : (N : Net) (a : Asked) → numberFor (askedAnswer N a) ≡ 0 → said (answerBy N (a .exchange)) ≡ []
+accepted N a k = ap said (clear-e (roomTest 1 (a .out) ∷ answerBy N (a .exchange) ∷ []) (zero-done (askedAnswer N a) k) .1 .0)
 
 -- ## A verdict that is harmless
 
@@ -50,8 +42,7 @@ verdict-zero {ws} {s} h r v l =
     let is : verdictCall ws r v .number ≡ numberFor (verdictOf s r) =
     ap₂ (λ (a : Answer) (t : Session). numberFor (first (a ∷ roomTest 2 v ∷ verdictOf t r ∷ []))) (h .passes) (h .session)
     ∙ rw (le-ltb (length v) 2 l, ← (alone (verdictOf s r))) in (
-      λ k. ⊎-elim (λ e. ap said e)
-          (λ f. let n : numberOf (f .0) ≡ 0 = sym (ap numberFor (f .2)) ∙ sym is ∙ k in clash (rw n at (f .1)) refl) (demand1 .verdict s r),
+      λ k. ap said (zero-done (verdictOf s r) (sym is ∙ k)),
       λ e. is ∙ number-said (verdictOf s r) ∙ ap (λ (a : List ℕ). getD a 0 0) e,
     )
 
@@ -81,10 +72,8 @@ module _ {ws : List ℕ} {s : Session} (at : Ready ws s) (list : List Asked) whe
     rule4 = λ r v w f l. let h = verdict-zero holds r v l in
         let k = rule4-loaded s (at .fresh) rs r w f in
         (λ e. k .0 (h .0 e), λ e. h .1 (k .1 e));
-    acceptedHarmless = λ r o v l k. let N = loadedNet s in
-        verdict-zero holds r v l .1
-        (accepted-harmless s (at .fresh) rs r
-        (accepted N r (ltb (length o) 1) (answerBy N r) (answer-because N r) (sym (call-after at list (record { exchange = r; out = o })) ∙ k)));
+    acceptedHarmless = λ r o v l k. let a : Asked = record { exchange = r; out = o } in
+        verdict-zero holds r v l .1 (accepted-harmless s (at .fresh) rs r (accepted (loadedNet s) a (sym (call-after at list a) ∙ k)));
   }
 
 pub after-calls-of : AfterCallsOf

@@ -40,7 +40,7 @@ use Rattle.packed.specs.Packed.{packedOf, excludedStart, sessionWords, part, se
 use Rattle.packed.proofs.Inverse.{packed-back}
 use Rattle.boundary.specs.Boundary.{Left, numberFor, left, tableWords, tablesRoom, allTableWords, writeWork, loadCall, listingCall, tablesCall, allTablesCall, patternSetsCall, hiddenCall, verdictCall, writeCall}
 use Rattle.boundary.specs.Promises.{Gives, Words, Asks, Demand2Calls}
-use Rattle.boundary.proofs.Names.{number-said}
+use Rattle.boundary.proofs.Names.{number-said, zero-done}
 use Rattle.boundary.proofs.Tested.{room-i, session-by, fillAnswer, fill-by, words-state, words-sized}
 use Rattle.boundary.proofs.Demand1Calls.{tables-length, hiddenCounts, hidden-length, loaded-room}
 
@@ -125,25 +125,15 @@ module _ (ws : List ℕ) (r : Replacement) (out : List ℕ) (j : Asks ws r) (o :
   verdict-says (Refused r) = refl
 
   -- and nothing else leaves that
-  module _ (a : Answer) (only : (a ≡ Done) ⊎ ((y : ℕ) × (k : ℕ) × (a ≡ Refused (Harm y k)))) where
-    says-harm : (x i : ℕ) → left a [] [] [] out ≡ leftBy (14 ∷ x ∷ i ∷ []) → said a ≡ 14 ∷ x ∷ i ∷ []
-    says-harm x i e =
-        ⊎-elim
-        (λ d.
-        let n : _≡_ {A = ℕ} 0 14 = sym (ap numberFor d) ∙ ap (λ (l : Left). l .number) e in
-        let z : ⊥ = omega arith in
-        absurd z)
-        (λ f.
-        let q = sym (ap (λ (b : Answer). left b [] [] [] out) (f .2)) ∙ e in
-        ap said (f .2) ∙ ap₂ (λ (y k : ℕ). 14 ∷ y ∷ k ∷ []) (ap (λ (l : Left). getD (l .out) 0 0) q) (ap (λ (l : Left). getD (l .out) 1 0) q)) only
+  says-nothing : (a : Answer) → left a [] [] [] out ≡ leftBy [] → said a ≡ []
+  says-nothing a e = ap said (zero-done a (ap (λ (l : Left). l .number) e))
 
-    says-nothing : left a [] [] [] out ≡ leftBy [] → said a ≡ []
-    says-nothing e =
-        ⊎-elim (λ d. ap said d)
-        (λ f.
-        let n : _≡_ {A = ℕ} 14 0 = sym (ap numberFor (f .2)) ∙ ap (λ (l : Left). l .number) e in
-        let z : ⊥ = omega arith in
-        absurd z) only
+  says-harm : (a : Answer) → (a ≡ Done) ⊎ ((y : ℕ) × (k : ℕ) × (a ≡ Refused (Harm y k))) → (x i : ℕ) → left a [] [] [] out ≡ leftBy (14 ∷ x ∷ i ∷ []) → said a ≡ 14 ∷ x ∷ i ∷ []
+  says-harm a only x i e =
+      ⊎-elim (λ d. let n : _≡_ {A = ℕ} 0 14 = sym (ap numberFor d) ∙ ap (λ (l : Left). l .number) e in absurd (omega arith))
+      (λ f.
+      let q = sym (ap (λ (b : Answer). left b [] [] [] out) (f .2)) ∙ e in
+      ap said (f .2) ∙ ap₂ (λ (y k : ℕ). 14 ∷ y ∷ k ∷ []) (ap (λ (l : Left). getD (l .out) 0 0) q) (ap (λ (l : Left). getD (l .out) 1 0) q)) only
 
   harmful-is : (verdictCall ws r out .number ≡ 14) ↔ ((x : ℕ) × (i : ℕ) × Changes (sessionIn ws) r x i)
   harmful-is =
@@ -166,7 +156,7 @@ module _ (ws : List ℕ) (r : Replacement) (out : List ℕ) (j : Asks ws r) (o :
 
   harmless-is : (verdictCall ws r out ≡ record { number = 0; buffer = []; out = out }) ↔ NoHarm L M (patterns L)
   harmless-is = (
-    λ e. harm-none L M .0 (says-nothing (harmTest L M) (harm-only L M) (sym judged ∙ e)),
+    λ e. harm-none L M .0 (says-nothing (harmTest L M) (sym judged ∙ e)),
     λ f. judged ∙ verdict-says (harmTest L M) ∙ ap leftBy (harm-none L M .1 f),
   )
 

@@ -1,7 +1,7 @@
 -- Demand 3 of the calls, of any list of exchange calls: over words that hold a session which is fresh, sized and narrow, whatever it
 -- was read from; and so of every file that loads. Assumes nothing.
 use mathlib.Core.Path.{_≡_, refl, sym, ap, ap₂, _∙_}
-use mathlib.Core.Logic.{_≢_, ⊎-elim}
+use mathlib.Core.Logic.{_≢_}
 use mathlib.Core.Bool.{cond}
 use mathlib.Core.List.{List, [], _∷_, _++_, map, append-assoc}
 use Prim.Native.Nat.{ℕ, _≤_}
@@ -11,7 +11,6 @@ use lib.ListN.{length, drop, length-append, length-drop}
 use lib.Seq.{drop-at}
 use Rattle.bits.specs.Lists.{overwritten}
 use Rattle.bits.proofs.Ranges.{by-cases}
-use Rattle.bits.proofs.Logic.{clash}
 use Rattle.network.specs.declared.Session.{Session}
 use Rattle.network.specs.declared.Loaded.{Loaded}
 use Rattle.network.specs.declared.Answer.{Answer}
@@ -19,23 +18,22 @@ use Rattle.network.specs.declared.Answer.the-variants.{Done, Refused}
 use Rattle.network.specs.Net.{Net, output, Replacement}
 use Rattle.network.specs.Flat.{loadedNet, currentNet}
 use Rattle.network.specs.Valid.{Sized, Narrow}
-use Rattle.network.specs.Refusals.{numberOf}
 use Rattle.network.specs.Tests.{orElse, first}
 use Rattle.network.specs.State.{stateTest}
 use Rattle.network.specs.Load.{loadDone, loadOf}
 use Rattle.network.specs.Calls.{stored, exchangeAnswer, exchanged, exchangeOf, roomTest, filled}
 use Rattle.network.specs.Sessions.{after, answers, answerBy}
+use Rattle.network.proofs.TestLaws.{clear-e}
 use Rattle.network.proofs.Fresh.{Fresh}
 use Rattle.network.proofs.Valid.{state-i}
 use Rattle.network.proofs.Exchanges.{answers-are, after-valid, after-sized, after-narrow}
 use Rattle.network.proofs.Reached.{loaded-fresh, loaded-sized, loaded-narrow}
 use Rattle.network.proofs.Demand3.{demand3}
-use Rattle.engine.proofs.Demands.{demand1}
 use Rattle.packed.specs.Packed.{packedOf, sessionWords}
 use Rattle.packed.proofs.Inverse.{packed-length, packed-back, unpack-answer, repacked, unpacks}
-use Rattle.boundary.specs.Boundary.{numberFor, valuesFor, Left, left, loadCall, exchangeCall}
+use Rattle.boundary.specs.Boundary.{numberFor, valuesFor, Left, left, loadAnswer, loadCall, exchangeCall}
 use Rattle.boundary.specs.Promises.{Asked, wordsAfter, heard, askedAnswer, askedLeft, roomy, Holds, Demand3Calls, Demand3OfCalls}
-use Rattle.boundary.proofs.Names.{number-said, values-said}
+use Rattle.boundary.proofs.Names.{number-said, values-said, zero-done}
 
 -- ## Words laid over others
 
@@ -253,21 +251,10 @@ load-done : (file session : List ℕ) → loadCall file session .number ≡ 0
     → (loadOf file ≡ loadDone (loadOf file .session)) × (loadCall file session .buffer ≡ overwritten (packedOf (loadOf file .session)) session)
 unfolding loadCall
 load-done file session z =
-    ⊎-elim (λ e. (e ∙ ap (λ (l : Loaded). loadDone (l .session)) (sym e), laid (loadOf file .answer) (ap (λ (l : Loaded). l .answer) e) z))
-    (λ f.
-    let n : numberOf (f .0) ≡ 0 = ap (λ (l : Loaded). numberFor (first (l .answer ∷ roomTest sessionWords session ∷ []))) (sym (f .2)) ∙ z in
-    clash (rw n at (f .1)) refl)
-    (demand1 .load file)
-  where
-    new : List ℕ
-    new = packedOf (loadOf file .session)
-
-    laid : (a : Answer) → a ≡ Done → numberFor (first (a ∷ roomTest sessionWords session ∷ [])) ≡ 0
-        → filled (first (a ∷ roomTest sessionWords session ∷ [])) new session .buffer ≡ overwritten new session
-    laid a e k =
-        by-cases (ltb (length session) sessionWords)
-        (λ t. let n : 9 ≡ 0 = rw (e, t) at k in let q : ⊥ = omega arith in absurd q)
-        (λ t. rw (e, t))
+    let s = loadOf file .session in
+    let a = zero-done (loadAnswer file session) z in
+    let c = clear-e (loadOf file .answer ∷ roomTest sessionWords session ∷ []) a in
+    (ap (λ (b : Answer). record { answer = b; session = s }) (c .0), ap (λ (b : Answer). filled b (packedOf s) session .buffer) a)
 
 module _ (file session : List ℕ) (z : loadCall file session .number ≡ 0) where
   pub loaded-ready : Ready (loadCall file session .buffer) (loadOf file .session)

@@ -1,6 +1,7 @@
 -- What a call leaves by what its answer says; and how many values an answer names: 13 one, 14 two, and no other refusal any.
 -- Assumes nothing.
 use mathlib.Core.Path.{_≡_, refl}
+use mathlib.Core.Bool.{true}
 use mathlib.Core.List.{List, []}
 use Prim.Native.Nat.{ℕ, _≤_}
 use native.Mathlib.Omega.{arith}
@@ -12,10 +13,10 @@ use Rattle.network.specs.declared.Answer.{Answer}
 use Rattle.network.specs.declared.Answer.the-variants.{Done, Refused}
 use Rattle.network.specs.Net.{Net, Replacement}
 use Rattle.network.specs.Refusals.{valuesOf, said}
-use Rattle.network.specs.Tests.{first}
+use Rattle.network.specs.Tests.{member, first}
 use Rattle.network.specs.State.{stateTest}
 use Rattle.network.specs.Calls.{gateTest, tableTest, roomTest}
-use Rattle.network.proofs.Said.{quiet}
+use Rattle.network.proofs.Said.{told-by}
 use Rattle.network.proofs.ByTest.{room-by, state-by, gate-by, table-by, Each, first-by}
 use Rattle.engine.specs.Demands.{Numbered}
 use Rattle.engine.proofs.Outcomes.{file}
@@ -31,6 +32,11 @@ number-said (Refused r) = refl
 pub values-said : (a : Answer) → valuesFor a [] ≡ drop 1 (said a)
 values-said Done = refl
 values-said (Refused r) = refl
+
+-- 0 is no refusal's number
+pub zero-done : (a : Answer) → numberFor a ≡ 0 → a ≡ Done
+zero-done Done e = refl
+zero-done (Refused r) e = let l = told-by (λ x. 1 ≤ x .0) (λ n a b. a) (λ t. omega arith) (λ x i. omega arith) r in absurd (omega arith)
 
 -- it names at most k values
 abbrev pub NamesMost : ℕ → Answer → Type 0
@@ -61,4 +67,4 @@ module _ (k : ℕ) where
 
 -- what refuses a file names nothing
 pub nameless : (r : Refusal) → Numbered file r → valuesOf r ≡ []
-nameless r h = quiet r (λ t e. clash (rw e at h) refl) (λ x i e. clash (rw e at h) refl)
+nameless = told-by (λ x. member (x .0) file ≡ true → x .1 ≡ []) (λ n a b h. refl) (λ t h. clash h refl) (λ x i h. clash h refl)
