@@ -36,7 +36,7 @@ values-said (Refused r) = refl
 -- 0 is no refusal's number
 pub zero-done : (a : Answer) → numberFor a ≡ 0 → a ≡ Done
 zero-done Done e = refl
-zero-done (Refused r) e = let l = told-by (λ x. 1 ≤ x .0) (λ n a b. a) (λ t. omega arith) (λ x i. omega arith) r in absurd (omega arith)
+zero-done (Refused r) e = let l = told-by (λ x. 1 ≤ x .0) (λ n a. a) (λ t. omega arith) (λ x i. omega arith) r in absurd (omega arith)
 
 -- it names at most k values
 abbrev pub NamesMost : ℕ → Answer → Type 0
@@ -67,4 +67,4 @@ module _ (k : ℕ) where
 
 -- what refuses a file names nothing
 pub nameless : (r : Refusal) → Numbered file r → valuesOf r ≡ []
-nameless = told-by (λ x. member (x .0) file ≡ true → x .1 ≡ []) (λ n a b h. refl) (λ t h. clash h refl) (λ x i h. clash h refl)
+nameless = told-by (λ x. member (x .0) file ≡ true → x .1 ≡ []) (λ n a h. refl) (λ t h. clash h refl) (λ x i h. clash h refl)

@@ -16,20 +16,20 @@ pub said-done : (a : Answer) → (said a ≡ []) ↔ (a ≡ Done)
 said-done Done = (λ e. refl, λ e. refl)
 said-done (Refused r) = (λ e. absurd (omega (arith, ap length e)), λ e. ap said e)
 
--- what a refusal tells: a number from 1 to 12 and no values, 13 and an entry, or 14, a pattern and an output
-module _ (P : ℕ × List ℕ → Type 0) (plain : (n : ℕ) → 1 ≤ n → n ≤ 12 → P (n, [])) (entry : (t : ℕ) → P (13, t ∷ [])) (harm : (x i : ℕ) → P (14, x ∷ i ∷ [])) where
+-- what a refusal tells: a number that is not 0 and no values, 13 and an entry, or 14, a pattern and an output
+module _ (P : ℕ × List ℕ → Type 0) (plain : (n : ℕ) → 1 ≤ n → P (n, [])) (entry : (t : ℕ) → P (13, t ∷ [])) (harm : (x i : ℕ) → P (14, x ∷ i ∷ [])) where
   pub told-by : (r : Refusal) → P (told r)
-  told-by Truncated = plain 1 (omega arith) (omega arith)
-  told-by UnexpectedMark = plain 2 (omega arith) (omega arith)
-  told-by OutOfBounds = plain 3 (omega arith) (omega arith)
-  told-by FaninNotEarlier = plain 4 (omega arith) (omega arith)
-  told-by FaninRepeated = plain 5 (omega arith) (omega arith)
-  told-by BitPastEnd = plain 6 (omega arith) (omega arith)
-  told-by NotASignal = plain 7 (omega arith) (omega arith)
-  told-by TrailingBytes = plain 8 (omega arith) (omega arith)
-  told-by BufferTooShort = plain 9 (omega arith) (omega arith)
-  told-by InvalidState = plain 10 (omega arith) (omega arith)
-  told-by NotAGate = plain 11 (omega arith) (omega arith)
-  told-by TableTooWide = plain 12 (omega arith) (omega arith)
+  told-by Truncated = plain 1 (omega arith)
+  told-by UnexpectedMark = plain 2 (omega arith)
+  told-by OutOfBounds = plain 3 (omega arith)
+  told-by FaninNotEarlier = plain 4 (omega arith)
+  told-by FaninRepeated = plain 5 (omega arith)
+  told-by BitPastEnd = plain 6 (omega arith)
+  told-by NotASignal = plain 7 (omega arith)
+  told-by TrailingBytes = plain 8 (omega arith)
+  told-by BufferTooShort = plain 9 (omega arith)
+  told-by InvalidState = plain 10 (omega arith)
+  told-by NotAGate = plain 11 (omega arith)
+  told-by TableTooWide = plain 12 (omega arith)
   told-by (ClosedEntry t) = entry t
   told-by (Harm x i) = harm x i
