@@ -73,9 +73,9 @@ pub fn tables(s: Session, gate: usize) -> TablesAnswer
 pub fn pattern_sets(s: Session, buf: &mut [u64]) -> Answer
     ensures { λ r. ⌜ record { answer = r; buffer = now (buf .exit) } ≡ patternSetsOf s (now (buf .entry)) ⌝ }
 {
-    let v = state::state_test(s);
-    if let Answer::Refused(_) = v {
-        return v;
+    let tested = state::state_test(s);
+    if let Answer::Refused(_) = tested {
+        return tested;
     }
     answers::pattern_sets(s, buf)
 }

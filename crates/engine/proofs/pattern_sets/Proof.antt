@@ -1,6 +1,7 @@
 -- `engine::pattern_sets` meets its contract. Assumes nothing.
-use mathlib.Core.Path.{sym, _∙_}
-use Rattle.network.specs.Calls.{setWords, patternSetsOf}
+use mathlib.Core.Path.{sym, ap, _∙_}
+use Rattle.network.specs.declared.Answer.{Answer}
+use Rattle.network.specs.Calls.{Filled, setWords, patternSetsOf}
 use Rattle.network.proofs.Valid.{state-e}
 use Rattle.engine.proofs.ByAnswer.{filling-invalid}
 use borrow.Author.Needs.{needs}
@@ -19,7 +20,7 @@ returns c =
     let t = c .before .before in
     let a = t .before .before .args in
     let e = filling-invalid (a .s) (setWords (a .s) (a .s .m)) (a .buf .now) (sym (t .state-test .ensures) ∙ c .enum-told .given .1) in
-    rw (e, c .enum-told .given .1)
+    ap {B = Filled} (λ (x : Answer). record { answer = x; buffer = a .buf .now }) (c .enum-told .given .1) ∙ sym e
 
 enum-told-2 : tie.Need-enum-told-2
 enum-told-2 c = search needs
