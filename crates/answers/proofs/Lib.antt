@@ -1,3 +1,4 @@
 pub mod LowestClosed
 pub mod Named
 pub mod Given
+pub mod Judged

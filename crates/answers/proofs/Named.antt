@@ -1,28 +1,28 @@
--- What tests 11 to 14 are of the gate that is named, and what tests that refuse nothing tell of it. Assumes nothing.
-use mathlib.Core.Path.{_≡_, refl, sym, ap, ap₂, _∙_}
-use mathlib.Core.Bool.{Bool, true, false, not, _&&_}
+-- What tests 11 to 13 are of the gate that is named, and what tests that refuse nothing tell of it. Assumes nothing.
+use mathlib.Core.Path.{_≡_, sym, ap, ap₂, _∙_}
+use mathlib.Core.Bool.{true, false, not, _&&_}
 use mathlib.Core.List.{List, [], _∷_}
 use Prim.Native.Nat.{ℕ, _+_, _-_, _^_, _≤_, _<_}
 use native.Mathlib.Omega.{arith}
-use lib.Dec.{ltb}
+use lib.Dec.{leb, ltb}
 use lib.ListN.{getD}
-use borrow.Author.Tests.{lt-leb, le-leb, le-ltb}
+use Rattle.bits.specs.Bounds.{mostInputs}
 use Rattle.bits.specs.Range.{smallest}
 use Rattle.bits.specs.Bit.{bit, differs}
 use Rattle.network.specs.declared.Session.{Session}
-use Rattle.network.specs.declared.Refusal.{Refusal}
-use Rattle.network.specs.declared.Refusal.the-variants.{BitPastEnd, NotAGate, TableTooWide}
+use Rattle.network.specs.declared.Refusal.the-variants.{NotAGate}
 use Rattle.network.specs.declared.Answer.{Answer}
 use Rattle.network.specs.declared.Answer.the-variants.{Done, Refused}
 use Rattle.network.specs.Bounds.{mostGates, mostFanins}
-use Rattle.network.specs.Net.{Gate, isGate, gate, arity, Replacement, replaced}
-use Rattle.network.specs.Flat.{gateAt, loadedNet, currentNet}
-use Rattle.network.specs.Tests.{refuseIf, first, widthTest}
+use Rattle.network.specs.Net.{Gate, isGate, gate, arity, Replacement}
+use Rattle.network.specs.Flat.{gateAt, loadedNet}
+use Rattle.network.specs.Tests.{first}
 use Rattle.network.specs.State.{arityOf, stateFault, stateTest}
-use Rattle.network.specs.Calls.{gateTest, fits, tableTest, alters, entryFound, closedTest, heldClosed, exchangeAnswer, harmTest}
-use Rattle.network.proofs.TestLaws.{refused-done, kept, clear-e, alone, went-on, count-e}
+use Rattle.network.specs.Calls.{gateTest, fits, tableTest, alters, entryFound, closedTest, heldClosed, exchangeAnswer}
+use Rattle.network.proofs.TestLaws.{kept, clear-e, alone, went-on, count-e}
 use Rattle.network.proofs.Valid.{valid-e, state-e, state-i}
-use Rattle.network.proofs.Exchanges.{net-gate, net-arity, gate-e, gate-i, loaded-length, loaded-inputs}
+use Rattle.network.proofs.Exchanges.{net-gate, net-arity, gate-e, loaded-length, loaded-inputs}
+use Rattle.replacements.specs.Pair.{Bounded}
 
 -- ## 11
 
@@ -31,17 +31,23 @@ pub in-valid : (s : Session) → stateFault s ≡ Done → (a : Answer) → a �
 in-valid s v a = alone a ∙ went-on (stateTest s ∷ []) (a ∷ []) (alone (stateTest s)) (state-i s v)
 
 module _ (s : Session) (k : ℕ) where
-  pub gate-low : k < s .n → Refused NotAGate ≡ gateTest (loadedNet s) k
-  unfolding gateTest isGate
-  gate-low h = rw (loaded-inputs s, lt-leb (s .n) k h)
+  pub gate-is : isGate (loadedNet s) k ≡ (leb (s .n) k && ltb k (s .n + s .m))
+  unfolding isGate
+  gate-is = rw (loaded-inputs s, loaded-length s)
 
-  pub gate-high : s .n ≤ k → s .n + s .m ≤ k → Refused NotAGate ≡ gateTest (loadedNet s) k
-  unfolding gateTest isGate
-  gate-high l h = rw (loaded-inputs s, loaded-length s, le-leb (s .n) k l, le-ltb k (s .n + s .m) h)
-
-  pub gate-fine : s .n ≤ k → k < s .n + s .m → Done ≡ gateTest (loadedNet s) k
+  pub gate-fine : (leb (s .n) k && ltb k (s .n + s .m)) ≡ true → Done ≡ gateTest (loadedNet s) k
   unfolding gateTest
-  gate-fine l h = rw (gate-i s k l h)
+  gate-fine e = rw (gate-is, e)
+
+  pub gate-refused : (leb (s .n) k && ltb k (s .n + s .m)) ≡ false → Refused NotAGate ≡ gateTest (loadedNet s) k
+  unfolding gateTest
+  gate-refused e = rw (gate-is, e)
+
+-- 01's bounds, of a session that is valid
+pub bounded : (s : Session) (n m : ℕ) → n ≡ s .n → m ≡ s .m → stateFault s ≡ Done → Bounded n m (s .arity)
+bounded s n m en em v =
+    rw (en, em)
+    (count-e mostInputs (s .n) (valid-e s v .inputs) .1, count-e mostGates (s .m) (valid-e s v .gates) .1, λ g h. count-e mostFanins (arityOf s g) (valid-e s v .gate g h .arity-fine) .1)
 
 -- ## What tests that refuse nothing tell
 
@@ -85,33 +91,11 @@ module _ (s : Session) (r : Replacement) (low : s .n ≤ r .signal) (high : r .s
   unfolding loadedNet gateAt
   loaded-table = ap (λ (x : Gate). x .table) (net-gate s (s .loaded) (r .signal) low high)
 
-  fits-is : fits (loadedNet s) r ≡ ltb (r .table) (2 ^ (2 ^ arityOf s g))
+  pub fits-is : fits (loadedNet s) r ≡ ltb (r .table) (2 ^ (2 ^ arityOf s g))
   fits-is = ap (λ (k : ℕ). ltb (r .table) (2 ^ (2 ^ k))) loaded-arity
-
-  by-width : (b : Bool) {f : Refusal} → refuseIf (not b) BitPastEnd ≡ Refused f → Refused TableTooWide ≡ refuseIf (not b) TableTooWide
-  by-width true e = absurd (refused-done _ (sym e))
-  by-width false e = refl
-
-  pub table-wide : {f : Refusal} → widthTest (2 ^ arityOf s g) (r .table) ≡ Refused f → Refused TableTooWide ≡ tableTest (loadedNet s) r
-  unfolding tableTest
-  table-wide e = rw fits-is (by-width (ltb (r .table) (2 ^ (2 ^ arityOf s g))) e)
-
-  pub table-fine : widthTest (2 ^ arityOf s g) (r .table) ≡ Done → Done ≡ tableTest (loadedNet s) r
-  unfolding tableTest
-  table-fine e = rw (fits-is, kept (ltb (r .table) (2 ^ (2 ^ arityOf s g))) BitPastEnd e)
 
   pub closed-is : entryFound (smallest (2 ^ arityOf s g) (λ t. not (bit (getD (s .open_tables) g 0) t) && differs (bit (getD (s .loaded) g 0) t) (bit (r .table) t)))
       ≡ closedTest (loadedNet s) (heldClosed s (r .signal)) r
   unfolding closedTest alters
   closed-is =
       ap₂ (λ (k x : ℕ). entryFound (smallest (2 ^ k) (λ t. not (bit (getD (s .open_tables) g 0) t) && differs (bit x t) (bit (r .table) t)))) (sym loaded-arity) (sym loaded-table)
-
--- ## 14
-
--- the gate that was named, by its place
-pub at-place : (s : Session) (k table : ℕ) → s .n ≤ k
-    → harmTest (loadedNet s) (replaced (currentNet s) (record { signal = s .n + (k - s .n); table = table } ∷ []))
-    ≡ harmTest (loadedNet s) (replaced (currentNet s) (record { signal = k; table = table } ∷ []))
-at-place s k table h =
-    let e : s .n + (k - s .n) ≡ k = omega arith in
-    ap (λ (x : ℕ). harmTest (loadedNet s) (replaced (currentNet s) (record { signal = x; table = table } ∷ []))) e

@@ -41,32 +41,21 @@ fn gate_test(s: Session, gate: usize) -> Answer
 {
     let n = s.n as usize;
     let m = s.m as usize;
-    if gate < n {
-        return Answer::Refused(Refusal::NotAGate);
+    if replacements::is_gate(n, m, gate) {
+        return Answer::Done;
     }
-    if n + m <= gate {
-        return Answer::Refused(Refusal::NotAGate);
-    }
-    Answer::Done
+    Answer::Refused(Refusal::NotAGate)
 }
 
-// Refusal 11, then 12: the table has a bit past its entries.
+// Refusal 11, then 12: a pair with none before it.
 fn replacement_test(s: Session, gate: usize, table: u64) -> Answer
     requires { ⌜ stateFault s ≡ Done ⌝ }
     ensures { λ r. ⌜ r ≡ first (stateTest s ∷ gateTest (loadedNet s) gate ∷ tableTest (loadedNet s) (record { signal = gate; table = table }) ∷ []) ⌝ }
 {
-    let a = gate_test(s, gate);
-    if let Answer::Refused(_) = a {
-        return a;
-    }
-    let n = s.n as usize;
-    let g = gate - n;
-    let k = s.arity[g];
-    let w = state::table_test(k, table);
-    if let Answer::Refused(_) = w {
-        return Answer::Refused(Refusal::TableTooWide);
-    }
-    Answer::Done
+    let n = network::place(s.n);
+    let m = network::place(s.m);
+    let arity = s.arity;
+    replacements::pair_test(n, m, &arity, 0, gate, table)
 }
 
 // What an exchange is answered: the first of 11 to 13 that applies.
@@ -86,18 +75,24 @@ pub fn exchange(s: Session, gate: usize, table: u64) -> Answer
     first_closed(k, loaded, table, opens)
 }
 
-// The verdict: the first of 11, 12 and 14 that applies.
-pub fn verdict(s: Session, gate: usize, table: u64) -> Answer
+// The verdict on a list of gates with a list of tables, as one replacement: 15, the pairs in order, then 14.
+pub fn verdict(s: Session, gates: &[u64], tables: &[u64]) -> Answer
     requires { ⌜ stateFault s ≡ Done ⌝ }
-    ensures { λ r. ⌜ r ≡ verdictOf s (record { signal = gate; table = table }) ⌝ }
+    ensures { λ r. ⌜ r ≡ verdictOf s (now (gates .entry)) (now (tables .entry)) ⌝ }
 {
-    let a = replacement_test(s, gate, table);
+    if gates.len() != tables.len() {
+        return Answer::Refused(Refusal::ListsUnequal);
+    }
+    let n = network::place(s.n);
+    let m = network::place(s.m);
+    let arity = s.arity;
+    let a = replacements::pairs_test(n, m, &arity, gates, tables);
     if let Answer::Refused(_) = a {
         return a;
     }
-    let n = s.n as usize;
-    let g = gate - n;
-    verdict::harm(s, g, table)
+    let current = s.current;
+    let all = replacements::replace_tables(n, current, gates, tables);
+    verdict::harm(s, all)
 }
 
 // The SDC, CDC, full and open table of a gate, or 11.

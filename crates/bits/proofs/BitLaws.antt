@@ -3,7 +3,7 @@ use mathlib.Core.Path.{_≡_, refl, sym, ap, ap₂, _∙_, subst}
 use mathlib.Core.Logic.{_⊎_, inl, inr}
 use mathlib.Core.Bool.{Bool, true, false, not, _&&_, _||_}
 use Prim.Native.Nat.{ℕ, zero, suc, _+_, _-_, _*_, _/_, _%_, _^_, _≤_, _<_, min, max}
-use native.Mathlib.Nat.{mod-lt, zero-div, mod-eq-of-lt, add-comm, div-one, lt-of-lt-of-le, div-eq-of-lt, mul-assoc, mul-add-div-right, mul-add-mod-self-right}
+use native.Mathlib.Nat.{add-zero, mod-lt, zero-div, mod-eq-of-lt, add-comm, div-one, lt-of-lt-of-le, div-eq-of-lt, mul-assoc, mul-add-div-right, mul-add-mod-self-right}
 use native.Mathlib.Numerals.{one-add, add-one}
 use native.Mathlib.Omega.{arith}
 use lib.Dec.{eqb, ltb, lit<}
@@ -11,8 +11,8 @@ use lib.Arith.{digits-mod, lt-one}
 use lib.Pow.{pow-mono, pow-add, pow-pos, shr-shr, ones-split, high, shr-lt, mod-pow-add, ones-lt}
 use lib.Bits.{bitAnd, bitOr, bitXor, and-step, or-step, xor-step, and-shr, or-shr, xor-shr, and-mask, xor-add-and, differ}
 use lib.Count.{ones, ones-cat, trailingZeros, under}
-use borrow.Author.Tests.{lt-ltb, le-ltb}
-use native.Mathlib.Decide.{decLt}
+use borrow.Author.Tests.{lt-ltb, le-ltb, eq-eqb, ne-eqb}
+use native.Mathlib.Decide.{decLt, ℕ-discrete}
 use Rattle.bits.specs.Range.{num, count}
 use Rattle.bits.specs.Bit.{bit, differs}
 
@@ -189,14 +189,6 @@ bit-low hi k lo i h =
 pub bit-high : (hi k lo i : ℕ) → lo < 2 ^ k → bit (hi * 2 ^ k + lo) (k + i) ≡ bit hi i
 bit-high hi k lo i h = sym (bit-shr (hi * 2 ^ k + lo) k i) ∙ ap (λ (n : ℕ). bit n i) (high hi k h)
 
--- a power of two has its own bit set
-pub power-own : (k : ℕ) → bit (2 ^ k) k ≡ true
-unfolding bit
-power-own k =
-    let e : 2 ^ k ≡ 1 * 2 ^ k + 0 = omega arith in
-    let i : k ≡ k + 0 = omega arith in
-    ap₂ bit e i ∙ bit-high 1 k 0 0 (pow-pos k)
-
 -- a number below 2 ^ i has no bit set at i
 pub bit-above : (x k i : ℕ) → x < 2 ^ k → k ≤ i → bit x i ≡ false
 unfolding bit
@@ -233,3 +225,34 @@ trailing (suc k) x h n = go (trailing k (x / 2) (half-lt k h)) (digit x)
           lower x (trailingZeros k (x / 2)) (num-inj (bit x 0) false (low x ∙ e)) (r .2),
         )
     go rest (inr e) = rw e (omega arith, num-inj (bit x 0) true (low x ∙ e), λ i l. absurd (omega arith))
+
+-- ## The set 2 ^ r + f: the members of f, which are below r, and r
+
+module _ (r f : ℕ) (h : f < 2 ^ r) where
+  parts : 2 ^ r + f ≡ 1 * 2 ^ r + f
+  parts = omega arith
+
+  pub with-own : bit (2 ^ r + f) r ≡ true
+  unfolding bit
+  with-own = ap₂ bit parts (sym (add-zero r)) ∙ bit-high 1 r f 0 h
+
+  pub with-other : (i : ℕ) → (i ≡ r → ⊥) → bit (2 ^ r + f) i ≡ bit f i
+  with-other i n = go (decLt i r)
+    where
+      go : Dec (i < r) → bit (2 ^ r + f) i ≡ bit f i
+      go (yes l) = ap (λ (x : ℕ). bit x i) parts ∙ bit-low 1 r f i l
+      go (no m) = bit-above (2 ^ r + f) (r + 1) i (omega (arith, pow-add 2 r 1)) (omega arith) ∙ sym (bit-above f r i h (omega arith))
+
+-- so 2 ^ r is the set of r alone
+pub power-own : (r : ℕ) → bit (2 ^ r) r ≡ true
+power-own r = ap (λ (x : ℕ). bit x r) (sym (add-zero (2 ^ r))) ∙ with-own r 0 (pow-pos r)
+
+pub power-other : (r i : ℕ) → (i ≡ r → ⊥) → bit (2 ^ r) i ≡ false
+power-other r i n = ap (λ (x : ℕ). bit x i) (sym (add-zero (2 ^ r))) ∙ with-other r 0 (pow-pos r) i n ∙ bit-zero i
+
+pub bit-power : (r i : ℕ) → bit (2 ^ r) i ≡ eqb r i
+bit-power r i = go (ℕ-discrete i r)
+  where
+    go : Dec (i ≡ r) → bit (2 ^ r) i ≡ eqb r i
+    go (yes e) = rw e (power-own r ∙ sym (eq-eqb r r refl))
+    go (no n) = power-other r i n ∙ sym (ne-eqb r i (λ e. n (sym e)))

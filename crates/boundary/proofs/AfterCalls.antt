@@ -1,30 +1,28 @@
 -- After a load and any list of exchange calls: the tables that a call gives are 01's, a verdict call goes by rule 4, and it finds
--- harmless what an exchange call accepts. Over words that hold a session as a reader leaves it, and so of every file that loads.
+-- harmless together what exchange calls would accept each for itself. Over words that hold a session as a reader leaves it, and so of every file that loads.
 -- Assumes nothing.
-use mathlib.Core.Path.{_≡_, sym, ap, ap₂, _∙_}
+use mathlib.Core.Path.{_≡_, sym, ap, _∙_}
 use mathlib.Core.Logic.{_↔_}
 use mathlib.Core.Bool.{true}
-use mathlib.Core.List.{List, [], _∷_}
+use mathlib.Core.List.{List, [], _∷_, map}
 use Prim.Native.Nat.{ℕ, _≤_}
 use lib.ListN.{length, getD}
-use borrow.Author.Tests.{le-ltb}
 use Rattle.bits.specs.Lists.{overwritten}
 use Rattle.network.specs.declared.Session.{Session}
-use Rattle.network.specs.declared.Answer.{Answer}
 use Rattle.network.specs.Net.{Net, isGate, Replacement}
 use Rattle.network.specs.DontCares.{sdc, cdc, full}
 use Rattle.network.specs.Flat.{loadedNet, currentNet}
 use Rattle.network.specs.Refusals.{said}
-use Rattle.network.specs.Tests.{first}
-use Rattle.network.specs.Calls.{verdictOf, gateTables, roomTest}
-use Rattle.network.specs.Sessions.{after, answerBy}
-use Rattle.network.proofs.TestLaws.{alone, clear-e}
+use Rattle.network.specs.Calls.{verdictOf, verdictOn, gateTables, roomTest}
+use Rattle.network.specs.Sessions.{after, answerBy, Acceptable, picked, Together}
+use Rattle.network.proofs.TestLaws.{clear-e}
 use Rattle.network.proofs.Exchanges.{after-loaded, after-open}
-use Rattle.network.proofs.Inside.{rule4-loaded, accepted-harmless}
-use Rattle.boundary.specs.Boundary.{numberFor, tableWords, tablesCall, verdictCall}
-use Rattle.boundary.specs.Promises.{Asked, wordsAfter, askedAnswer, roomy, Holds, AfterCalls, AfterCallsOf}
+use Rattle.network.proofs.Together.{together}
+use Rattle.network.proofs.Inside.{rule4-loaded}
+use Rattle.boundary.specs.Boundary.{Left, numberFor, tableWords, tablesCall, verdictCall, verdictCallOn, exchangeCall}
+use Rattle.boundary.specs.Promises.{Asked, wordsAfter, askedAnswer, roomy, Holds, AcceptableCalls, AfterCalls, AfterCallsOf}
 use Rattle.boundary.proofs.Names.{number-said, zero-done}
-use Rattle.boundary.proofs.Demand2Calls.{demand2-calls}
+use Rattle.boundary.proofs.Demand2Calls.{verdict-left, demand2-calls}
 use Rattle.boundary.proofs.Demand3Calls.{Ready, demand3-calls, call-after, loaded-ready}
 
 -- ## An exchange that is accepted
@@ -36,14 +34,13 @@ accepted N a k = ap said (clear-e (roomTest 1 (a .out) ∷ answerBy N (a .exchan
 -- ## A verdict that is harmless
 
 -- a verdict call gives 0 exactly where the engine's verdict says nothing
-verdict-zero : {ws : List ℕ} {s : Session} → Holds ws s → (r : Replacement) (v : List ℕ) → 2 ≤ length v → (verdictCall ws r v .number ≡ 0) ↔ (said (verdictOf s r) ≡ [])
-unfolding verdictCall
-verdict-zero {ws} {s} h r v l =
-    let is : verdictCall ws r v .number ≡ numberFor (verdictOf s r) =
-    ap₂ (λ (a : Answer) (t : Session). numberFor (first (a ∷ roomTest 2 v ∷ verdictOf t r ∷ []))) (h .passes) (h .session)
-    ∙ rw (le-ltb (length v) 2 l, ← (alone (verdictOf s r))) in (
-      λ k. ap said (zero-done (verdictOf s r) (sym is ∙ k)),
-      λ e. is ∙ number-said (verdictOf s r) ∙ ap (λ (a : List ℕ). getD a 0 0) e,
+verdict-zero : {ws : List ℕ} {s : Session} → Holds ws s → (gs ts v : List ℕ) → 2 ≤ length v → (verdictCall ws gs ts v .number ≡ 0) ↔ (said (verdictOf s gs ts) ≡ [])
+verdict-zero {ws} {s} h gs ts v l =
+    let a = verdictOf s gs ts in
+    let is : verdictCall ws gs ts v .number ≡ numberFor a =
+    ap (λ (x : Left). x .number) (verdict-left ws gs ts v (h .passes) l) ∙ ap (λ (t : Session). numberFor (verdictOf t gs ts)) (h .session) in (
+      λ k. ap said (zero-done a (sym is ∙ k)),
+      λ e. is ∙ number-said a ∙ ap (λ (x : List ℕ). getD x 0 0) e,
     )
 
 -- ## The tables of a gate
@@ -64,16 +61,32 @@ module _ {ws : List ℕ} {s : Session} (at : Ready ws s) (list : List Asked) whe
   holds : Holds (wordsAfter ws list) (after s rs)
   holds = demand3-calls at list .holds
 
+  abbrev all : Together s rs
+  all = together s (at .fresh) rs
+
+  -- a verdict call returns 0 where the engine finds nothing
+  harmless : (qs : List Replacement) (v : List ℕ) → 2 ≤ length v → said (verdictOn (after s rs) qs) ≡ [] → verdictCallOn (wordsAfter ws list) qs v .number ≡ 0
+  harmless qs v l = verdict-zero holds (map (λ r. r .signal) qs) (map (λ r. r .table) qs) v l .1
+
+  accepted-after : (r : Replacement) (o : List ℕ) → exchangeCall (wordsAfter ws list) r o .number ≡ 0 → said (answerBy (loadedNet s) r) ≡ []
+  accepted-after r o k = let a : Asked = record { exchange = r; out = o } in accepted (loadedNet s) a (sym (call-after at list a) ∙ k)
+
+  acceptable : (named : List ℕ) (qs : List Replacement) → AcceptableCalls (wordsAfter ws list) named qs → Acceptable (loadedNet s) named qs
+  acceptable named [] a = tt
+  acceptable named (r ∷ qs) a = (accepted-after r (a .0 .0) (a .0 .1), a .1, acceptable (r .signal ∷ named) qs (a .2))
+
   pub after-calls : AfterCalls ws s list
   after-calls = record {
     tables = λ g out w l. let C = currentNet (after s rs) in
         tables-words holds g out (ap (λ (N : Net). isGate N g) (after-loaded s (at .fresh) rs) ∙ w) l
         ∙ ap (λ (o : ℕ). record { number = 0; buffer = []; out = overwritten (sdc C g ∷ cdc C g ∷ full C g ∷ o ∷ []) out }) (after-open s (at .fresh) rs g w);
-    rule4 = λ r v w f l. let h = verdict-zero holds r v l in
+    rule4 = λ r v w f l. let h = verdict-zero holds (r .signal ∷ []) (r .table ∷ []) v l in
         let k = rule4-loaded s (at .fresh) rs r w f in
         (λ e. k .0 (h .0 e), λ e. h .1 (k .1 e));
-    acceptedHarmless = λ r o v l k. let a : Asked = record { exchange = r; out = o } in
-        verdict-zero holds r v l .1 (accepted-harmless s (at .fresh) rs r (accepted (loadedNet s) a (sym (call-after at list a) ∙ k)));
+    together = λ qs v l a. harmless qs v l (all .whole qs (acceptable [] qs a));
+    part = λ qs p v l a. harmless (picked p qs) v l (all .part qs p (acceptable [] qs a));
+    lone = λ r o v l k. harmless (r ∷ []) v l (all .lone r (accepted-after r o k));
+    empty = λ v l. harmless [] v l (all .empty);
   }
 
 pub after-calls-of : AfterCallsOf

@@ -12,7 +12,7 @@ use Rattle.network.specs.Tests.{markTest, faninTest, faninsTest, excludedTest}
 use Rattle.network.specs.State.{gateFault, stateFault, stateTest}
 use Rattle.network.specs.Load.{outputRecord, readOutputs, gateRecord, readGates, excludedRecord, readBody, headerRecord, readOf, loadOf}
 use Rattle.network.specs.Write.{headerBytes, excludedBytes, gateBytes, outputBytes, bytesOf}
-use Rattle.network.specs.Calls.{gateTest, tableTest, alters, closedTest, harmTest, exchangeAnswer, verdictOf, patternSetsOf, writeOf}
+use Rattle.network.specs.Calls.{gateTest, tableTest, alters, closedTest, harmTest, exchangeAnswer, lengthsTest, pairTest, verdictOf, patternSetsOf, writeOf}
 use Rattle.network.specs.Sessions.{answerBy}
 use Rattle.render.specs.Listing.{refusedLine, listingOf, listingInto}
 use Rattle.packed.specs.Packed.{packedOf, sessionIn, bytesTest, wordsTest}
@@ -20,7 +20,7 @@ use Rattle.boundary.specs.Boundary.{loadCall, listingCall, tablesCall, a
 use Rattle.boundary.specs.Cases.{cases, inTurn}
 
 pub cases-hold : Hold cases
-unfolding bit isGate excluded excludedFor occurs patternOrder entry values sdc cdc valuesInverted odc full harms agree constant turns freeFanins atOutputs compatibleFrom compatible compatibleCount delivers closed openTable openTables gateAt gatesOf netOf loadedNet currentNet wordOf wordsOf markTest faninTest faninsTest excludedTest gateFault stateFault stateTest outputRecord readOutputs gateRecord readGates excludedRecord readBody headerRecord readOf loadOf headerBytes excludedBytes gateBytes outputBytes bytesOf gateTest tableTest alters closedTest harmTest exchangeAnswer verdictOf patternSetsOf writeOf wordCount packedOf sessionIn bytesTest wordsTest decimal refusedLine listingOf listingInto loadCall listingCall tablesCall allTablesCall patternSetsCall hiddenCall verdictCall exchangeCall writeCall
+unfolding bit isGate excluded excludedFor occurs patternOrder entry values sdc cdc valuesInverted odc full harms agree constant turns freeFanins atOutputs compatibleFrom compatible compatibleCount delivers closed openTable openTables gateAt gatesOf netOf loadedNet currentNet wordOf wordsOf markTest faninTest faninsTest excludedTest gateFault stateFault stateTest outputRecord readOutputs gateRecord readGates excludedRecord readBody headerRecord readOf loadOf headerBytes excludedBytes gateBytes outputBytes bytesOf gateTest tableTest alters closedTest harmTest exchangeAnswer lengthsTest pairTest verdictOf patternSetsOf writeOf wordCount packedOf sessionIn bytesTest wordsTest decimal refusedLine listingOf listingInto loadCall listingCall tablesCall allTablesCall patternSetsCall hiddenCall verdictCall exchangeCall writeCall
 cases-hold = refl
 
 pub in-turn-hold : Hold inTurn

@@ -16,19 +16,20 @@ use Rattle.network.specs.declared.Loaded.{Loaded}
 use Rattle.network.specs.declared.Refusal.the-variants.{BufferTooShort, InvalidState}
 use Rattle.network.specs.declared.Answer.{Answer}
 use Rattle.network.specs.declared.Answer.the-variants.{Done, Refused}
-use Rattle.network.specs.Net.{Net, Replacement, replaced}
+use Rattle.network.specs.Net.{Net, Replacement}
 use Rattle.network.specs.Compatible.{compatibleCount}
-use Rattle.network.specs.Flat.{loadedNet, currentNet}
+use Rattle.network.specs.Flat.{loadedNet}
 use Rattle.network.specs.Refusals.{numberOf}
 use Rattle.network.specs.Tests.{first, member}
 use Rattle.network.specs.State.{stateTest}
 use Rattle.network.specs.Load.{loadOf}
 use Rattle.network.specs.Write.{bytesOf}
-use Rattle.network.specs.Calls.{gateTest, tableTest, harmTest, heldClosed, exchangeTests, exchangeAnswer, verdictOf, gateTables, stored, roomTest, setWords, patternSetsOf, writeOf}
+use Rattle.network.specs.Calls.{harmTest, heldClosed, exchangeTests, exchangeAnswer, lengthsTest, pairs, pairsTest, verdictOf, gateTables, stored, roomTest, setWords, patternSetsOf, writeOf}
 use Rattle.network.proofs.Slots.{sized-current}
-use Rattle.network.proofs.ByTest.{Before, room-by, state-by, gate-by, table-by, closed-by, harm-by, first-by}
+use Rattle.network.proofs.ByTest.{Before, room-by, state-by, gate-by, table-by, closed-by, harm-by, lengths-by, first-by, pairs-by}
 use Rattle.network.proofs.Reached.{loaded-sized}
 use Rattle.render.specs.Listing.{listingOf, listingInto}
+use Rattle.engine.specs.Demands.{allInPlace}
 use Rattle.engine.proofs.Outcomes.{file}
 use Rattle.engine.proofs.Demands.{demand1}
 use Rattle.packed.specs.Packed.{packedOf, sessionWords, sessionIn, wordsTest}
@@ -118,22 +119,26 @@ module _ (ws : List ℕ) where
       (λ v o. fill-by (Before Q Done) new buffer s bad short (λ b. inl (b, omega arith, refl)))
 
   -- verdict and exchange have their tests in one
-  verdict-ends : (r : Replacement) (out : List ℕ) → let l = verdictCall ws r out in
-      Gives l [] [] [] out ⊎ (Refuses l (9 ∷ 10 ∷ 11 ∷ 12 ∷ []) [] out ⊎ ((x : ℕ) × (i : ℕ) × Names l 14 (x ∷ i ∷ []) [] out))
+  verdict-ends : (gs ts out : List ℕ) → let l = verdictCall ws gs ts out in
+      Gives l [] [] [] out ⊎ (Refuses l (9 ∷ 10 ∷ 11 ∷ 12 ∷ 15 ∷ 16 ∷ []) [] out ⊎ ((x : ℕ) × (i : ℕ) × Names l 14 (x ∷ i ∷ []) [] out))
   unfolding verdictCall verdictOf
-  verdict-ends r out =
+  verdict-ends gs ts out =
       let Q : Answer → Type 0 = λ a. let l = left a [] [] [] out in
-      Gives l [] [] [] out ⊎ (Refuses l (9 ∷ 10 ∷ 11 ∷ 12 ∷ []) [] out ⊎ ((x : ℕ) × (i : ℕ) × Names l 14 (x ∷ i ∷ []) [] out)) in
+      Gives l [] [] [] out ⊎ (Refuses l (9 ∷ 10 ∷ 11 ∷ 12 ∷ 15 ∷ 16 ∷ []) [] out ⊎ ((x : ℕ) × (i : ℕ) × Names l 14 (x ∷ i ∷ []) [] out)) in
       let R = Before Q Done in
-      let M = replaced (currentNet s) (r ∷ []) in
+      let rs = pairs gs ts in
+      let M = allInPlace s rs in
       let ok : Q Done = inl (omega arith, omega arith, refl) in
       let bad : Q (Refused InvalidState) = inr (inl (10, refl, refl)) in
-      session-by Q ws out (verdictWork r s) (inr (inl (9, refl, refl))) bad
-      (λ v o. first-by R ok (stateTest s ∷ gateTest N (r .signal) ∷ tableTest N r ∷ harmTest N M ∷ []) (
+      session-by Q ws out (verdictWork gs ts s) (inr (inl (9, refl, refl))) bad
+      (λ v o. first-by R ok (stateTest s ∷ lengthsTest gs ts ∷ pairsTest N [] rs ∷ harmTest N M ∷ []) (
         state-by R s bad (λ u. ok),
         (
-          gate-by R N (r .signal) (inr (inl (11, refl, refl))) (λ w. ok),
-          (table-by R N r (inr (inl (12, refl, refl))) (λ f. ok), (harm-by R N M (λ x i. inr (inr (x, i, (o, refl)))) ok, tt)),
+          lengths-by R gs ts (inr (inl (15, refl, refl))) (λ e. ok),
+          (
+            pairs-by R N [] rs (inr (inl (11, refl, refl))) (inr (inl (16, refl, refl))) (inr (inl (12, refl, refl))) ok,
+            (harm-by R N M (λ x i. inr (inr (x, i, (o, refl)))) ok, tt),
+          ),
         ),
       ))
 

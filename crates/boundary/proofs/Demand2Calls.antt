@@ -2,46 +2,50 @@
 use mathlib.Core.Path.{_≡_, refl, sym, ap, ap₂, _∙_}
 use mathlib.Core.Logic.{_⊎_, ⊎-elim, _↔_}
 use mathlib.Core.Bool.{true}
-use mathlib.Core.List.{List, [], _∷_}
+use mathlib.Core.List.{List, [], _∷_, map}
 use Prim.Native.Nat.{ℕ, _+_, _*_, _^_, _≤_, _<_}
 use native.Mathlib.Nat.{min-le-left}
 use native.Mathlib.Omega.{arith}
 use native.Mathlib.Decide.{decLt}
 use lib.ListN.{length, getD, take, drop, length-take, List·getD-eq-default}
 use lib.Seq.{take-append-seam, getD-take, getD-drop}
-use borrow.Author.Tests.{le-ltb}
+use borrow.Author.Tests.{le-ltb, ne-eqb}
 use Rattle.bits.specs.Lists.{overwritten}
 use Rattle.network.specs.declared.Session.{Session}
 use Rattle.network.specs.declared.Loaded.{Loaded}
+use Rattle.network.specs.declared.Refusal.{Refusal}
 use Rattle.network.specs.declared.Refusal.the-variants.{BufferTooShort, InvalidState, Harm}
 use Rattle.network.specs.declared.Answer.{Answer}
 use Rattle.network.specs.declared.Answer.the-variants.{Done, Refused}
 use Rattle.network.specs.Bounds.{excludedWords}
-use Rattle.network.specs.Net.{Net, isGate, patterns, Replacement, replaced}
+use Rattle.network.specs.Net.{Net, isGate, patterns, Replacement}
 use Rattle.network.specs.Flat.{loadedNet, currentNet}
-use Rattle.network.specs.Refusals.{said}
+use Rattle.network.specs.Refusals.{numberOf, said}
 use Rattle.network.specs.Tests.{first}
 use Rattle.network.specs.State.{stateTest}
 use Rattle.network.specs.Valid.{Shaped}
 use Rattle.network.specs.Load.{loadOf}
 use Rattle.network.specs.Write.{bytesOf}
-use Rattle.network.specs.Calls.{gateTest, harmTest, verdictOf, gateTables, filled, roomTest, setWords, patternSetsOf, writeOf}
+use Rattle.network.specs.Calls.{gateTest, harmTest, lengthsTest, pairs, pairsTest, verdictOf, verdictOn, gateTables, filled, roomTest, setWords, patternSetsOf, writeOf}
+use Rattle.network.specs.Lists.{FirstFault}
 use Rattle.network.specs.Sessions.{NoHarm, FirstHarm}
 use Rattle.network.proofs.TestLaws.{alone, clear-i}
 use Rattle.network.proofs.Valid.{state-e}
 use Rattle.network.proofs.Reached.{loaded-sized}
-use Rattle.network.proofs.Harm.{harm-only, harm-none, harm-at, verdict-is}
-use Rattle.network.proofs.ByTest.{Before}
+use Rattle.network.proofs.Harm.{harm-only, harm-none, harm-at}
+use Rattle.network.proofs.ByTest.{Before, pairs-by}
+use Rattle.network.proofs.Lists.{pairs-back, lengths-fine, signals-back, tables-back, verdict-is, faulted-of}
 use Rattle.render.specs.Listing.{listingOf, listingInto}
-use Rattle.engine.specs.Demands.{Changes}
+use Rattle.engine.specs.Demands.{allInPlace, Changes}
 use Rattle.engine.proofs.Demands.{demand2}
 use Rattle.roundtrip.proofs.RoundTrip.{round-trip}
 use Rattle.packed.specs.Packed.{packedOf, excludedStart, sessionWords, part, sessionIn, wordsTest}
 use Rattle.packed.proofs.Inverse.{packed-back}
-use Rattle.boundary.specs.Boundary.{Left, numberFor, left, tableWords, tablesRoom, allTableWords, writeWork, loadCall, listingCall, tablesCall, allTablesCall, patternSetsCall, hiddenCall, verdictCall, writeCall}
+use Rattle.boundary.specs.Boundary.{Left, numberFor, left, tableWords, tablesRoom, allTableWords, writeWork, loadCall, listingCall, tablesCall, allTablesCall, patternSetsCall, hiddenCall, verdictCall, verdictCallOn, writeCall}
 use Rattle.boundary.specs.Promises.{Gives, Words, Asks, Demand2Calls}
-use Rattle.boundary.proofs.Names.{number-said, zero-done}
+use Rattle.boundary.proofs.Names.{number-said, zero-done, NamesMost}
 use Rattle.boundary.proofs.Tested.{room-i, session-by, fillAnswer, fill-by, words-state, words-sized}
+use Rattle.boundary.proofs.Leaves.{refused}
 use Rattle.boundary.proofs.Demand1Calls.{tables-length, hiddenCounts, hidden-length, loaded-room}
 
 -- ## Where no test refuses
@@ -98,22 +102,27 @@ write-gives ws file out v o b = fill-given ws v 1 (length (bytesOf (sessionIn ws
 
 -- ## Verdicts
 
-module _ (ws : List ℕ) (r : Replacement) (out : List ℕ) (j : Asks ws r) (o : 2 ≤ length out) where
+-- past the words and the room, the engine's verdict decides
+pub verdict-left : (ws gs ts out : List ℕ) → wordsTest ws ≡ Done → 2 ≤ length out → verdictCall ws gs ts out ≡ left (verdictOf (sessionIn ws) gs ts) [] [] [] out
+unfolding verdictCall
+verdict-left ws gs ts out v o =
+    let h = verdictOf (sessionIn ws) gs ts in
+    let a : first (wordsTest ws ∷ roomTest 2 out ∷ h ∷ []) ≡ h = rw (v, le-ltb (length out) 2 o) (sym (alone h)) in
+    ap (λ (x : Answer). left x [] [] [] out) a
+
+module _ (ws : List ℕ) (rs : List Replacement) (out : List ℕ) (j : Asks ws rs) (o : 2 ≤ length out) where
   abbrev L : Net
   L = loadedNet (sessionIn ws)
 
   abbrev M : Net
-  M = replaced (currentNet (sessionIn ws)) (r ∷ [])
+  M = allInPlace (sessionIn ws) rs
+
+  is : verdictOn (sessionIn ws) rs ≡ harmTest L M
+  is = verdict-is (sessionIn ws) rs (words-state ws (j .0)) (j .1)
 
   -- the search for harm decides
-  judged : verdictCall ws r out ≡ left (harmTest L M) [] [] [] out
-  unfolding verdictCall
-  judged =
-      let s = sessionIn ws in
-      let h = harmTest L M in
-      let a : first (wordsTest ws ∷ roomTest 2 out ∷ verdictOf s r ∷ []) ≡ h =
-      rw (j .0, le-ltb (length out) 2 o, verdict-is s r (words-state ws (j .0)) (j .1) (j .2)) (sym (alone h)) in
-      ap (λ (x : Answer). left x [] [] [] out) a
+  judged : verdictCallOn ws rs out ≡ left (harmTest L M) [] [] [] out
+  judged = verdict-left ws (map (λ r. r .signal) rs) (map (λ r. r .table) rs) out (j .0) o ∙ ap (λ (x : Answer). left x [] [] [] out) is
 
   -- what a call that gives nothing leaves, by what it says
   abbrev leftBy : List ℕ → Left
@@ -135,30 +144,49 @@ module _ (ws : List ℕ) (r : Replacement) (out : List ℕ) (j : Asks ws r) (o :
       let q = sym (ap (λ (b : Answer). left b [] [] [] out) (f .2)) ∙ e in
       ap said (f .2) ∙ ap₂ (λ (y k : ℕ). 14 ∷ y ∷ k ∷ []) (ap (λ (l : Left). getD (l .out) 0 0) q) (ap (λ (l : Left). getD (l .out) 1 0) q)) only
 
-  harmful-is : (verdictCall ws r out .number ≡ 14) ↔ ((x : ℕ) × (i : ℕ) × Changes (sessionIn ws) r x i)
+  harmful-is : (verdictCallOn ws rs out .number ≡ 14) ↔ ((x : ℕ) × (i : ℕ) × Changes (sessionIn ws) rs x i)
   harmful-is =
-      let s = sessionIn ws in
-      let v = words-state ws (j .0) in
-      let h = demand2 .harmful s r (v, j .1, j .2) in
-      let e = verdict-is s r v (j .1) (j .2) in
+      let h = demand2 .harmful (sessionIn ws) rs (words-state ws (j .0), j .1) in
       let n = ap (λ (l : Left). l .number) judged in (
         λ k. ⊎-elim (λ d. let z : _≡_ {A = ℕ} 0 14 = sym (ap numberFor d) ∙ sym n ∙ k in absurd (omega arith))
-            (λ f. h .0 (f .0, f .1, ap said (e ∙ f .2))) (harm-only L M),
+            (λ f. h .0 (f .0, f .1, ap said (is ∙ f .2))) (harm-only L M),
         λ c. let f = h .1 c in
-            n ∙ number-said (harmTest L M) ∙ ap (λ (l : List ℕ). getD l 0 0) (ap said (sym e) ∙ f .2),
+            n ∙ number-said (harmTest L M) ∙ ap (λ (l : List ℕ). getD l 0 0) (ap said (sym is) ∙ f .2),
       )
 
-  shown-is : (x i : ℕ) → (verdictCall ws r out ≡ record { number = 14; buffer = []; out = overwritten (x ∷ i ∷ []) out }) ↔ FirstHarm L M x i
+  shown-is : (x i : ℕ) → (verdictCallOn ws rs out ≡ record { number = 14; buffer = []; out = overwritten (x ∷ i ∷ []) out }) ↔ FirstHarm L M x i
   shown-is x i = (
     λ e. harm-at L M x i .0 (says-harm (harmTest L M) (harm-only L M) x i (sym judged ∙ e)),
     λ f. judged ∙ verdict-says (harmTest L M) ∙ ap leftBy (harm-at L M x i .1 f),
   )
 
-  harmless-is : (verdictCall ws r out ≡ record { number = 0; buffer = []; out = out }) ↔ NoHarm L M (patterns L)
+  harmless-is : (verdictCallOn ws rs out ≡ record { number = 0; buffer = []; out = out }) ↔ NoHarm L M (patterns L)
   harmless-is = (
     λ e. harm-none L M .0 (says-nothing (harmTest L M) (sym judged ∙ e)),
     λ f. judged ∙ verdict-says (harmTest L M) ∙ ap leftBy (harm-none L M .1 f),
   )
+
+-- ## Lists that are not judged
+
+faulted-is : (ws : List ℕ) (rs : List Replacement) (f : Refusal) (out : List ℕ) → wordsTest ws ≡ Done → 2 ≤ length out
+    → FirstFault (loadedNet (sessionIn ws)) rs f → verdictCallOn ws rs out ≡ record { number = numberOf f; buffer = []; out = out }
+unfolding verdictOf
+faulted-is ws rs f out v o w =
+    let s = sessionIn ws in
+    let N = loadedNet s in
+    let e = faulted-of N rs f .1 w in
+    let names : NamesMost 0 (pairsTest N [] rs) = pairs-by (NamesMost 0) N [] rs (omega arith) (omega arith) (omega arith) (omega arith) in
+    let is : verdictOn s rs ≡ Refused f = rw (words-state ws v, lengths-fine rs, pairs-back rs, e) in
+    verdict-left ws (map (λ r. r .signal) rs) (map (λ r. r .table) rs) out v o
+    ∙ ap (λ (x : Answer). left x [] [] [] out) is ∙ sym (refused {a = Refused f} [] [] [] out refl (rw e at names) refl)
+
+unequal-is : (ws gs ts out : List ℕ) → (length gs ≡ length ts → ⊥) → wordsTest ws ≡ Done → 2 ≤ length out
+    → verdictCall ws gs ts out ≡ record { number = 15; buffer = []; out = out }
+unfolding verdictOf lengthsTest
+unequal-is ws gs ts out d v o = verdict-left ws gs ts out v o ∙ rw (words-state ws v, ne-eqb (length gs) (length ts) d)
+
+listed-is : (ws gs ts out : List ℕ) → length gs ≡ length ts → verdictCall ws gs ts out ≡ verdictCallOn ws (pairs gs ts) out
+listed-is ws gs ts out e = sym (ap₂ (λ (a b : List ℕ). verdictCall ws a b out) (signals-back gs ts e) (tables-back gs ts e))
 
 -- ## A network written and read again
 
@@ -223,7 +251,10 @@ demand2-calls = record {
   hidden = λ ws out v. let s = sessionIn ws in room-given ws v (s .m) (hiddenCounts s) out (hidden-length s);
   write = write-gives;
   harmful = harmful-is;
-  shown = λ ws r out x i j o. shown-is ws r out j o x i;
+  shown = λ ws rs out x i j o. shown-is ws rs out j o x i;
   harmless = harmless-is;
+  faulted = faulted-is;
+  listed = listed-is;
+  unequal = unequal-is;
   roundTrip = round-trips;
 }

@@ -1,6 +1,6 @@
 -- The calls of the library for other languages, on lent words and bytes. Each is the engine's call on the session that the words hold:
 -- it returns 01's number, or 0, and puts named values at the start of `out`. Assumes nothing.
-use mathlib.Core.List.{List, [], _∷_, _++_}
+use mathlib.Core.List.{List, [], _∷_, _++_, map}
 use Prim.Native.Nat.{ℕ, zero, suc, _+_, _*_}
 use lib.ListN.{length}
 use Rattle.bits.specs.Range.{places}
@@ -114,12 +114,16 @@ hiddenWork s = record { room = s .m; tests = []; given = places (s .m) (λ g. co
 unfoldable pub hiddenCall : (session out : List ℕ) → Left
 hiddenCall session out = onSession hiddenWork session [] out
 
--- 14 names pattern and output
-abbrev pub verdictWork : Replacement → Session → Work
-verdictWork r s = record { room = 2; tests = verdictOf s r ∷ []; given = []; new = [] }
+-- 14 names pattern and output; 15 comes behind the room for them
+abbrev pub verdictWork : (gates tables : List ℕ) → Session → Work
+verdictWork gs ts s = record { room = 2; tests = verdictOf s gs ts ∷ []; given = []; new = [] }
 
-unfoldable pub verdictCall : (session : List ℕ) (r : Replacement) (out : List ℕ) → Left
-verdictCall session r out = onSession (verdictWork r) session [] out
+unfoldable pub verdictCall : (session gates tables out : List ℕ) → Left
+verdictCall session gs ts out = onSession (verdictWork gs ts) session [] out
+
+-- the same of a list of pairs
+abbrev pub verdictCallOn : (session : List ℕ) → List Replacement → (out : List ℕ) → Left
+verdictCallOn session rs out = verdictCall session (map (λ r. r .signal) rs) (map (λ r. r .table) rs) out
 
 -- 13 names the entry
 abbrev pub exchangeWork : Replacement → Session → Work

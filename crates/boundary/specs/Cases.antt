@@ -57,8 +57,10 @@ cases =
     ∷ (laid (exchangeCall words (cleared 1) (7 ∷ [])), 0 ∷ changed)
     ∷ (given (exchangeCall words (cleared 2) (7 ∷ 7 ∷ [])), 13 ∷ 1 ∷ 7 ∷ [])
     ∷ (laid (exchangeCall words (cleared 2) (7 ∷ 7 ∷ [])), 13 ∷ words)
-    ∷ (given (verdictCall words (cleared 2) (7 ∷ 7 ∷ [])), 0 ∷ 7 ∷ 7 ∷ [])
-    ∷ (given (verdictCall changed (cleared 2) (7 ∷ 7 ∷ [])), 14 ∷ 1 ∷ 0 ∷ [])
+    ∷ (given (verdictCall words (2 ∷ []) (0 ∷ []) (7 ∷ 7 ∷ [])), 0 ∷ 7 ∷ 7 ∷ [])
+    ∷ (given (verdictCall changed (2 ∷ []) (0 ∷ []) (7 ∷ 7 ∷ [])), 14 ∷ 1 ∷ 0 ∷ [])
+    ∷ (given (verdictCall words (1 ∷ 2 ∷ []) (0 ∷ 0 ∷ []) (7 ∷ 7 ∷ 7 ∷ [])), 14 ∷ 1 ∷ 0 ∷ 7 ∷ [])
+    ∷ (given (verdictCall words [] [] (7 ∷ 7 ∷ [])), 0 ∷ 7 ∷ 7 ∷ [])
     ∷ (given (writeCall words (replicate 28 7) (7 ∷ [])), 0 ∷ 27 ∷ [])
     ∷ (laid (writeCall words (replicate 28 7) (7 ∷ [])), 0 ∷ twinBytes ++ 7 ∷ [])
     -- a loaded file, and the line of a refused one
@@ -69,7 +71,10 @@ cases =
     ∷ (given (exchangeCall (take (sessionWords - 1) words) (cleared 1) []), 9 ∷ [])
     ∷ (given (exchangeCall (replicate sessionWords 0) (cleared 1) []), 10 ∷ [])
     ∷ (given (exchangeCall (set words (outputsStart - 1) 256) (cleared 1) (7 ∷ [])), 10 ∷ 7 ∷ [])
-    ∷ (given (verdictCall words (cleared 0) (7 ∷ [])), 9 ∷ 7 ∷ [])
+    ∷ (given (verdictCall words (1 ∷ []) [] (7 ∷ [])), 9 ∷ 7 ∷ [])
+    -- lists of unequal length, behind the room; a gate named a second time
+    ∷ (given (verdictCall words (0 ∷ []) [] (7 ∷ 7 ∷ [])), 15 ∷ 7 ∷ 7 ∷ [])
+    ∷ (given (verdictCall words (1 ∷ 1 ∷ []) (0 ∷ 4 ∷ []) (7 ∷ 7 ∷ [])), 16 ∷ 7 ∷ 7 ∷ [])
     ∷ (given (tablesCall words 4 (replicate 4 7)), 11 ∷ 7 ∷ 7 ∷ 7 ∷ 7 ∷ [])
     -- the file's refusals come before the session's room
     ∷ (laid (loadCall (take 26 twinBytes) (7 ∷ [])), 1 ∷ 7 ∷ [])

@@ -2,7 +2,7 @@
 -- definition in Boundary.antt says: `tusqirma_load` what `loadCall` says, and so on. Assumes nothing.
 use mathlib.Core.Path.{_≡_}
 use mathlib.Core.Logic.{_⊎_, _↔_, _≢_}
-use mathlib.Core.Bool.{true, false, cond}
+use mathlib.Core.Bool.{Bool, true, false, cond}
 use mathlib.Core.List.{List, [], _∷_, _++_, map}
 use Prim.Native.Nat.{ℕ, _+_, _*_, _^_, _<_, _≤_}
 use lib.Dec.{ltb}
@@ -11,22 +11,24 @@ use Rattle.bits.specs.Range.{places}
 use Rattle.bits.specs.Lists.{overwritten}
 use Rattle.bits.specs.Bit.{bit}
 use Rattle.network.specs.declared.Session.{Session}
+use Rattle.network.specs.declared.Refusal.{Refusal}
 use Rattle.network.specs.declared.Answer.{Answer}
 use Rattle.network.specs.declared.Answer.the-variants.{Done}
-use Rattle.network.specs.Net.{Net, isGate, entries, patterns, excludedFor, output, Replacement, replaced}
+use Rattle.network.specs.Net.{Net, isGate, entries, patterns, excludedFor, output, Replacement}
 use Rattle.network.specs.DontCares.{sdc, cdc, full}
 use Rattle.network.specs.Compatible.{compatibleCount, openTable}
 use Rattle.network.specs.Flat.{loadedNet, currentNet}
-use Rattle.network.specs.Refusals.{said}
+use Rattle.network.specs.Refusals.{numberOf, said}
 use Rattle.network.specs.Tests.{member, first}
 use Rattle.network.specs.Load.{loadOf, loadDone}
 use Rattle.network.specs.Write.{bytesOf}
-use Rattle.network.specs.Calls.{fits, alters, gateTables, stored, roomTest, setWords}
-use Rattle.network.specs.Sessions.{after, answerBy, NoHarm, FirstHarm, Demand3}
-use Rattle.engine.specs.Demands.{Changes}
+use Rattle.network.specs.Calls.{fits, alters, pairs, gateTables, stored, roomTest, setWords}
+use Rattle.network.specs.Lists.{Sound, FirstFault}
+use Rattle.network.specs.Sessions.{after, answerBy, NoHarm, FirstHarm, picked, Demand3}
+use Rattle.engine.specs.Demands.{allInPlace, Changes}
 use Rattle.render.specs.Listing.{listingOf}
 use Rattle.packed.specs.Packed.{packedOf, sessionWords, sessionIn, wordsTest}
-use Rattle.boundary.specs.Boundary.{Left, tableWords, allTableWords, loadCall, listingCall, tablesCall, allTablesCall, patternSetsCall, hiddenCall, verdictCall, exchangeCall, writeCall}
+use Rattle.boundary.specs.Boundary.{Left, tableWords, allTableWords, loadCall, listingCall, tablesCall, allTablesCall, patternSetsCall, hiddenCall, verdictCall, verdictCallOn, exchangeCall, writeCall}
 
 -- ## Demand 1: for every file, buffer, table and session state, a call ends in one of the listed outcomes, or in a numbered refusal
 -- that changes neither state nor lent buffer
@@ -67,21 +69,21 @@ pub record Demand1Calls : Type 0 where
   pub write : (ws file out : List ℕ)
       → Ends (writeCall ws file out) (bytesOf (sessionIn ws)) file (length (bytesOf (sessionIn ws)) ∷ []) out (9 ∷ 10 ∷ [])
   -- a verdict: harmless, or else 14 names pattern and output
-  pub verdict : (ws : List ℕ) (r : Replacement) (out : List ℕ) → let l = verdictCall ws r out in
-      Gives l [] [] [] out ⊎ (Refuses l (9 ∷ 10 ∷ 11 ∷ 12 ∷ []) [] out ⊎ ((x : ℕ) × (i : ℕ) × Names l 14 (x ∷ i ∷ []) [] out))
+  pub verdict : (ws gates tables out : List ℕ) → let l = verdictCall ws gates tables out in
+      Gives l [] [] [] out ⊎ (Refuses l (9 ∷ 10 ∷ 11 ∷ 12 ∷ 15 ∷ 16 ∷ []) [] out ⊎ ((x : ℕ) × (i : ℕ) × Names l 14 (x ∷ i ∷ []) [] out))
   -- an exchanged gate; 13 names the entry
   pub exchange : (ws : List ℕ) (r : Replacement) (out : List ℕ) → let l = exchangeCall ws r out in
       Gives l (packedOf (stored (sessionIn ws) r)) ws [] out ⊎ (Refuses l (9 ∷ 10 ∷ 11 ∷ 12 ∷ []) ws out ⊎ ((t : ℕ) × Names l 13 (t ∷ []) ws out))
 
--- ## Demand 2: the tables are 01's, a lone replacement is judged exactly, and a network written and read again is the same
+-- ## Demand 2: the tables are 01's, a list of replacements is judged exactly, and a network written and read again is the same
 
 -- each fits a word
 abbrev pub Words : List ℕ → Type 0
 Words ws = (i : ℕ) → getD ws i 0 < 2 ^ 64
 
--- 9 and 10 do not refuse the words, nor 11 and 12 the replacement
-abbrev pub Asks : List ℕ → Replacement → Type 0
-Asks ws r = (wordsTest ws ≡ Done) × (isGate (loadedNet (sessionIn ws)) (r .signal) ≡ true) × (fits (loadedNet (sessionIn ws)) r ≡ true)
+-- 9 and 10 do not refuse the words, nor 11, 16 and 12 the pairs
+abbrev pub Asks : List ℕ → List Replacement → Type 0
+Asks ws rs = (wordsTest ws ≡ Done) × Sound (loadedNet (sessionIn ws)) [] rs
 
 pub record Demand2Calls : Type 0 where
   -- wherever it can, a call gives what 01 defines
@@ -99,17 +101,25 @@ pub record Demand2Calls : Type 0 where
       → Gives (hiddenCall ws out) [] [] (places (sessionIn ws .m) (λ g. compatibleCount (loadedNet (sessionIn ws)) (sessionIn ws .n + g))) out
   pub write : (ws file out : List ℕ) → wordsTest ws ≡ Done → 1 ≤ length out → length (bytesOf (sessionIn ws)) ≤ length file
       → Gives (writeCall ws file out) (bytesOf (sessionIn ws)) file (length (bytesOf (sessionIn ws)) ∷ []) out
-  -- a lone replacement is found harmful exactly when some pattern that is not excluded changes an output
-  pub harmful : (ws : List ℕ) (r : Replacement) (out : List ℕ) → Asks ws r → 2 ≤ length out
-      → (verdictCall ws r out .number ≡ 14) ↔ ((x : ℕ) × (i : ℕ) × Changes (sessionIn ws) r x i)
+  -- harm is found exactly when some pattern that is not excluded changes an output with all of the list in place
+  pub harmful : (ws : List ℕ) (rs : List Replacement) (out : List ℕ) → Asks ws rs → 2 ≤ length out
+      → (verdictCallOn ws rs out .number ≡ 14) ↔ ((x : ℕ) × (i : ℕ) × Changes (sessionIn ws) rs x i)
   -- the smallest such pattern and, there, the lowest output are shown
-  pub shown : (ws : List ℕ) (r : Replacement) (out : List ℕ) (x i : ℕ) → Asks ws r → 2 ≤ length out
-      → (verdictCall ws r out ≡ record { number = 14; buffer = []; out = overwritten (x ∷ i ∷ []) out })
-      ↔ FirstHarm (loadedNet (sessionIn ws)) (replaced (currentNet (sessionIn ws)) (r ∷ [])) x i
+  pub shown : (ws : List ℕ) (rs : List Replacement) (out : List ℕ) (x i : ℕ) → Asks ws rs → 2 ≤ length out
+      → (verdictCallOn ws rs out ≡ record { number = 14; buffer = []; out = overwritten (x ∷ i ∷ []) out })
+      ↔ FirstHarm (loadedNet (sessionIn ws)) (allInPlace (sessionIn ws) rs) x i
   -- and else it is found harmless
-  pub harmless : (ws : List ℕ) (r : Replacement) (out : List ℕ) → Asks ws r → 2 ≤ length out
-      → (verdictCall ws r out ≡ record { number = 0; buffer = []; out = out })
-      ↔ NoHarm (loadedNet (sessionIn ws)) (replaced (currentNet (sessionIn ws)) (r ∷ [])) (patterns (loadedNet (sessionIn ws)))
+  pub harmless : (ws : List ℕ) (rs : List Replacement) (out : List ℕ) → Asks ws rs → 2 ≤ length out
+      → (verdictCallOn ws rs out ≡ record { number = 0; buffer = []; out = out })
+      ↔ NoHarm (loadedNet (sessionIn ws)) (allInPlace (sessionIn ws) rs) (patterns (loadedNet (sessionIn ws)))
+  -- of a list with a pair at fault the first such pair decides
+  pub faulted : (ws : List ℕ) (rs : List Replacement) (f : Refusal) (out : List ℕ) → wordsTest ws ≡ Done → 2 ≤ length out
+      → FirstFault (loadedNet (sessionIn ws)) rs f → verdictCallOn ws rs out ≡ record { number = numberOf f; buffer = []; out = out }
+  -- two lists of one length are a list of pairs, and others are refused by 15
+  pub listed : (ws gates tables out : List ℕ) → length gates ≡ length tables
+      → verdictCall ws gates tables out ≡ verdictCallOn ws (pairs gates tables) out
+  pub unequal : (ws gates tables out : List ℕ) → (length gates ≡ length tables → ⊥) → wordsTest ws ≡ Done → 2 ≤ length out
+      → verdictCall ws gates tables out ≡ record { number = 15; buffer = []; out = out }
   -- a network written and read again is the same network
   pub roundTrip : (ws file out session : List ℕ) → Words ws → writeCall ws file out .number ≡ 0 → sessionWords ≤ length session
       → let w = writeCall ws file out in
@@ -174,6 +184,12 @@ Demand3OfCalls = (file session : List ℕ) (list : List Asked) → loadCall file
 
 -- ## Calls on the words that a load and any list of exchange calls left
 
+-- each of the pairs would be accepted by an exchange call on these words, and no gate stands twice among them and the named ones
+abbrev pub AcceptableCalls : List ℕ → (named : List ℕ) → List Replacement → Type 0
+AcceptableCalls ws named [] = Unit {0}
+AcceptableCalls ws named (r ∷ rs) =
+    ((out : List ℕ) × (exchangeCall ws r out .number ≡ 0)) × (member (r .signal) named ≡ false) × AcceptableCalls ws (r .signal ∷ named) rs
+
 pub record AfterCalls (ws : List ℕ) (s : Session) (list : List Asked) : Type 0 where
   -- the tables are 01's: SDC, CDC and full table of the current network, the open table of the loaded one
   pub tables : (g : ℕ) (out : List ℕ) → isGate (loadedNet s) g ≡ true → 4 ≤ length out
@@ -182,12 +198,20 @@ pub record AfterCalls (ws : List ℕ) (s : Session) (list : List Asked) : Type 0
       ≡ record { number = 0; buffer = []; out = overwritten (sdc C g ∷ cdc C g ∷ full C g ∷ openTable (loadedNet s) g ∷ []) out }
   -- rule 4: a lone replacement is found harmless exactly when it alters, of the loaded table, only entries of the full table
   pub rule4 : (r : Replacement) (v : List ℕ) → isGate (loadedNet s) (r .signal) ≡ true → fits (loadedNet s) r ≡ true → 2 ≤ length v
-      → (verdictCall (wordsAfter ws list) r v .number ≡ 0)
+      → (verdictCallOn (wordsAfter ws list) (r ∷ []) v .number ≡ 0)
       ↔ ((t : ℕ) → t < entries (loadedNet s) (r .signal) → alters (loadedNet s) r t ≡ true
       → bit (full (currentNet (after s (roomy list))) (r .signal)) t ≡ true)
-  -- what an exchange call accepts, a verdict call finds harmless
-  pub acceptedHarmless : (r : Replacement) (o v : List ℕ) → 2 ≤ length v
-      → exchangeCall (wordsAfter ws list) r o .number ≡ 0 → verdictCall (wordsAfter ws list) r v .number ≡ 0
+  -- what exchange calls would accept, each for itself, one verdict call finds harmless together
+  pub together : (rs : List Replacement) (v : List ℕ) → 2 ≤ length v
+      → AcceptableCalls (wordsAfter ws list) [] rs → verdictCallOn (wordsAfter ws list) rs v .number ≡ 0
+  -- and so every part of it
+  pub part : (rs : List Replacement) (p : ℕ → Bool) (v : List ℕ) → 2 ≤ length v
+      → AcceptableCalls (wordsAfter ws list) [] rs → verdictCallOn (wordsAfter ws list) (picked p rs) v .number ≡ 0
+  -- the list of one: what an exchange call accepts, a verdict call finds harmless
+  pub lone : (r : Replacement) (out v : List ℕ) → 2 ≤ length v
+      → exchangeCall (wordsAfter ws list) r out .number ≡ 0 → verdictCallOn (wordsAfter ws list) (r ∷ []) v .number ≡ 0
+  -- nothing at all is harmless
+  pub empty : (v : List ℕ) → 2 ≤ length v → verdictCall (wordsAfter ws list) [] [] v .number ≡ 0
 
 abbrev pub AfterCallsOf : Type 0
 AfterCallsOf = (file session : List ℕ) (list : List Asked) → loadCall file session .number ≡ 0

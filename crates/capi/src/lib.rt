@@ -38,12 +38,17 @@ pub extern "C" fn tusqirma_pattern_sets(session: &[u64], words: &mut [u64]) -> u
     gatecalls::pattern_sets(session, words)
 }
 
-// Harm that a lone replacement does.
+// Harm that the gates do with these tables, all of them in place.
 #[no_mangle]
-pub extern "C" fn tusqirma_verdict(session: &[u64], gate: usize, table: u64, out: &mut [u64]) -> u64
-    ensures { λ r. ⌜ record { number = r; buffer = []; out = now (out .exit) } ≡ verdictCall (now (session .entry)) (record { signal = gate; table = table }) (now (out .entry)) ⌝ }
+pub extern "C" fn tusqirma_verdict(
+    session: &[u64],
+    gates: &[u64],
+    tables: &[u64],
+    out: &mut [u64],
+) -> u64
+    ensures { λ r. ⌜ record { number = r; buffer = []; out = now (out .exit) } ≡ verdictCall (now (session .entry)) (now (gates .entry)) (now (tables .entry)) (now (out .entry)) ⌝ }
 {
-    changecalls::verdict(session, gate, table, out)
+    changecalls::verdict(session, gates, tables, out)
 }
 
 // Sets a gate's current table.

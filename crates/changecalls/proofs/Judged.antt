@@ -13,9 +13,9 @@ use Rattle.network.specs.Flat.{loadedNet, currentNet}
 use Rattle.network.specs.Refusals.{numberOf, valuesOf}
 use Rattle.network.specs.Tests.{first}
 use Rattle.network.specs.State.{stateTest}
-use Rattle.network.specs.Calls.{gateTest, tableTest, harmTest, heldClosed, exchangeTests, exchangeAnswer, verdictOf}
+use Rattle.network.specs.Calls.{harmTest, heldClosed, exchangeTests, exchangeAnswer, lengthsTest, pairs, pairsTest, verdictOf}
 use Rattle.network.proofs.TestLaws.{alone}
-use Rattle.network.proofs.ByTest.{closed-by, harm-by}
+use Rattle.network.proofs.ByTest.{closed-by, harm-by, lengths-by, pairs-by}
 use Rattle.boundary.specs.Boundary.{left}
 use Rattle.boundary.proofs.Names.{NamesMost, names-first, names-state, names-gate, names-table}
 use Rattle.boundary.proofs.Leaves.{Leaves, refused-with, done}
@@ -30,13 +30,19 @@ names-exchange s r =
     names-first 1 (stateTest s ∷ exchangeTests N shut r)
     (names-state 1 s, (names-gate 1 N (r .signal), (names-table 1 N r, (closed-by (NamesMost 1) N shut r (λ t. omega arith) (omega arith), tt))))
 
-pub names-verdict : (s : Session) (r : Replacement) → NamesMost 2 (verdictOf s r)
+pub names-verdict : (s : Session) (gs ts : List ℕ) → NamesMost 2 (verdictOf s gs ts)
 unfolding verdictOf
-names-verdict s r =
+names-verdict s gs ts =
     let N = loadedNet s in
-    let M = replaced (currentNet s) (r ∷ []) in
-    names-first 2 (stateTest s ∷ gateTest N (r .signal) ∷ tableTest N r ∷ harmTest N M ∷ [])
-    (names-state 2 s, (names-gate 2 N (r .signal), (names-table 2 N r, (harm-by (NamesMost 2) N M (λ x i. omega arith) (omega arith), tt))))
+    let rs = pairs gs ts in
+    let M = replaced (currentNet s) rs in
+    names-first 2 (stateTest s ∷ lengthsTest gs ts ∷ pairsTest N [] rs ∷ harmTest N M ∷ []) (
+      names-state 2 s,
+      (
+        lengths-by (NamesMost 2) gs ts (omega arith) (λ e. omega arith),
+        (pairs-by (NamesMost 2) N [] rs (omega arith) (omega arith) (omega arith) (omega arith), (harm-by (NamesMost 2) N M (λ x i. omega arith) (omega arith), tt)),
+      ),
+    )
 
 -- ## What a call leaves whose own test is y, and that gives nothing in `out`
 

@@ -1,12 +1,12 @@
-// Other languages: the calls on a replacement: the verdict of a lone one, and the exchange.
+// Other languages: the calls on replacements: the verdict on a list of them, and the exchange of one.
 ghost use mathlib.Core.Path.{_≡_};
 ghost use mathlib.Core.List.{[]};
 ghost use Rattle.boundary.specs.Boundary.{verdictCall, exchangeCall};
 use network::Answer;
 
-// Harm that a lone replacement does.
-pub fn verdict(session: &[u64], gate: usize, table: u64, out: &mut [u64]) -> u64
-    ensures { λ r. ⌜ record { number = r; buffer = []; out = now (out .exit) } ≡ verdictCall (now (session .entry)) (record { signal = gate; table = table }) (now (out .entry)) ⌝ }
+// Harm that the gates do with these tables, all of them in place.
+pub fn verdict(session: &[u64], gates: &[u64], tables: &[u64], out: &mut [u64]) -> u64
+    ensures { λ r. ⌜ record { number = r; buffer = []; out = now (out .exit) } ≡ verdictCall (now (session .entry)) (now (gates .entry)) (now (tables .entry)) (now (out .entry)) ⌝ }
 {
     let l = packed::unpack(session);
     let tested = l.answer;
@@ -14,7 +14,7 @@ pub fn verdict(session: &[u64], gate: usize, table: u64, out: &mut [u64]) -> u64
     if let Answer::Refused(r) = a {
         return network::number_of(r);
     }
-    let v = answers::verdict(l.session, gate, table);
+    let v = answers::verdict(l.session, gates, tables);
     if let Answer::Refused(r) = v {
         return boundary::tell_refusal(r, out);
     }

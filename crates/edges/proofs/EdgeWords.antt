@@ -15,7 +15,7 @@ use lib.Seq.{getD-set-same, getD-set-other}
 use borrow.Author.Tests.{not-true}
 use Rattle.bits.specs.Bounds.{gatePlaces, smallFanins, smallWords}
 use Rattle.bits.specs.Bit.{bit, choose, differs, tableOf}
-use Rattle.bits.proofs.BitLaws.{bit-and, bit-xor, bit-ext, bit-zero, bit-ones, bit-shr, bit-low, bit-high, bit-above, differs-true, power-own}
+use Rattle.bits.proofs.BitLaws.{bit-and, bit-xor, bit-ext, bit-zero, bit-ones, bit-shr, bit-low, bit-high, bit-above, differs-true, with-own, with-other, power-own, power-other}
 use Rattle.bits.proofs.Logic.{beq-i, differs-e, differs-i}
 use Rattle.bits.proofs.Ranges.{and-l, and-r, and-i, or-r, and-true, by-cases, iff, every-e, every-i, lt-cases, table-lt, bit-table, small-words}
 use Rattle.network.specs.Net.{entry}
@@ -28,26 +28,6 @@ use Rattle.edges.specs.Edges.{edgeTable, Edged, Constants, Doubled, Halv
 and-false : (a : Bool) → (a && false) ≡ false
 and-false true = refl
 and-false false = refl
-
--- ## The set 2 ^ r + f: the fan-ins of f, which are below r, and r
-
-module _ (r f : ℕ) (h : f < 2 ^ r) where
-  parts : 2 ^ r + f ≡ 1 * 2 ^ r + f
-  parts = omega arith
-
-  with-own : bit (2 ^ r + f) r ≡ true
-  unfolding bit
-  with-own = ap₂ bit parts (sym (add-zero r)) ∙ bit-high 1 r f 0 h
-
-  with-other : (i : ℕ) → (i ≡ r → ⊥) → bit (2 ^ r + f) i ≡ bit f i
-  with-other i n = go (decLt i r)
-    where
-      go : Dec (i < r) → bit (2 ^ r + f) i ≡ bit f i
-      go (yes l) = ap (λ (x : ℕ). bit x i) parts ∙ bit-low 1 r f i l
-      go (no m) = bit-above (2 ^ r + f) (r + 1) i (omega (arith, pow-add 2 r 1)) (omega arith) ∙ sym (bit-above f r i h (omega arith))
-
-power-other : (r i : ℕ) → (i ≡ r → ⊥) → bit (2 ^ r) i ≡ false
-power-other r i n = ap (λ (x : ℕ). bit x i) (sym (add-zero (2 ^ r))) ∙ with-other r 0 (pow-pos r) i n ∙ bit-zero i
 
 -- ## The entry t with fan-in r turned
 

@@ -25,19 +25,21 @@ use Rattle.network.specs.Tests.{first}
 use Rattle.network.specs.State.{stateTest}
 use Rattle.network.specs.Load.{loadDone, onward, readOf, opened, loadOf}
 use Rattle.network.specs.Write.{bytesOf}
-use Rattle.network.specs.Calls.{gateTest, tableTest, harmTest, exchangeTests, heldClosed, exchangeAnswer, exchanged, exchangeOf, verdictOf, gateTables, givenTables, tablesOf, Filled, roomTest, filled, setWords, patternSetsOf, writeOf, countsFor, countsOf, withLength, writtenOf}
+use Rattle.network.specs.Calls.{gateTest, harmTest, exchangeTests, heldClosed, exchangeAnswer, exchanged, exchangeOf, lengthsTest, pairs, pairsTest, verdictOf, verdictOn, gateTables, givenTables, tablesOf, Filled, roomTest, filled, setWords, patternSetsOf, writeOf, countsFor, countsOf, withLength, writtenOf}
 use Rattle.network.specs.Sessions.{after, NoHarm, FirstHarm}
 use Rattle.network.proofs.TestLaws.{count-e}
 use Rattle.network.proofs.Valid.{valid-e, state-e, state-i}
 use Rattle.network.proofs.Fresh.{Fresh}
 use Rattle.network.proofs.Exchanges.{after-valid, after-loaded, after-shaped, after-open}
 use Rattle.network.proofs.Reached.{loaded-fresh, loaded-shaped}
-use Rattle.network.proofs.Harm.{harm-only, harm-done, harm-none, harm-at, verdict-is}
-use Rattle.network.proofs.ByTest.{room-by, state-by, gate-by, table-by, closed-by, harm-by}
+use Rattle.network.proofs.Harm.{harm-only, harm-done, harm-none, harm-at}
+use Rattle.network.proofs.Lists.{verdict-is, pair-exact-of, judged-of, faulted-of, few-of, listed-of, unequal-of, lone-of}
+use Rattle.network.proofs.ByTest.{room-by, state-by, gate-by, table-by, closed-by, harm-by, lengths-by, pairs-by}
 use Rattle.network.proofs.Demand3.{demand3-of, rule4-of}
+use Rattle.network.proofs.Together.{together-of}
 use Rattle.network.proofs.Inside.{inside-of}
 use Rattle.roundtrip.proofs.RoundTrip.{round-trip}
-use Rattle.engine.specs.Demands.{Ends, Demand1, lone, Changes, Judged, Reached, Demand2, Demand3}
+use Rattle.engine.specs.Demands.{Ends, Demand1, allInPlace, Changes, Judged, Reached, Demand2, Demand3}
 use Rattle.engine.proofs.Outcomes.{file, Among, ends, tests-end, read-among}
 
 -- ## Calls that fill a buffer with new words or bytes
@@ -75,12 +77,13 @@ demand1 = record {
       let shut = heldClosed s (r .signal) in
       tests-end ns (λ a. exchanged a s r) (stateTest s ∷ exchangeTests N shut r)
       (state-by Q s refl (λ v. tt), (gate-by Q N (r .signal) refl (λ w. tt), (table-by Q N r refl (λ f. tt), (closed-by Q N shut r (λ t. refl) tt, tt))));
-  verdict = λ s r. let ns : List ℕ = 10 ∷ 11 ∷ 12 ∷ 14 ∷ [] in
+  verdict = λ s gs ts. let ns : List ℕ = 10 ∷ 11 ∷ 12 ∷ 14 ∷ 15 ∷ 16 ∷ [] in
       let Q = Among ns in
       let N = loadedNet s in
-      let M = lone s r in
-      tests-end ns (λ a. a) (stateTest s ∷ gateTest N (r .signal) ∷ tableTest N r ∷ harmTest N M ∷ [])
-      (state-by Q s refl (λ v. tt), (gate-by Q N (r .signal) refl (λ w. tt), (table-by Q N r refl (λ f. tt), (harm-by Q N M (λ x i. refl) tt, tt))));
+      let rs = pairs gs ts in
+      let M = allInPlace s rs in
+      tests-end ns (λ a. a) (stateTest s ∷ lengthsTest gs ts ∷ pairsTest N [] rs ∷ harmTest N M ∷ [])
+      (state-by Q s refl (λ v. tt), (lengths-by Q gs ts refl (λ e. tt), (pairs-by Q N [] rs refl refl refl tt, (harm-by Q N M (λ x i. refl) tt, tt))));
   write = λ s buffer. fills-end s (bytesOf s) buffer (withLength (length (bytesOf s)));
   counts = λ s. ends (10 ∷ []) (λ a. countsFor a s) (stateTest s) (state-by (Among (10 ∷ [])) s refl (λ v. tt));
 }
@@ -105,25 +108,28 @@ module _ (s : Session) (v : stateTest s ≡ Done) where
 same-said : {P : Type 0} (a b : Answer) (l : List ℕ) → a ≡ b → (said b ≡ l) ↔ P → (said a ≡ l) ↔ P
 same-said a b l e h = (λ k. h .0 (ap said (sym e) ∙ k), λ p. ap said e ∙ h .1 p)
 
-module _ (s : Session) (r : Replacement) (j : Judged s r) where
+module _ (s : Session) (rs : List Replacement) (j : Judged s rs) where
   abbrev L : Net
   L = loadedNet s
 
-  is : verdictOf s r ≡ harmTest L (lone s r)
-  is = verdict-is s r (j .0) (j .1) (j .2)
+  abbrev M : Net
+  M = allInPlace s rs
 
-  shown-at : (x i : ℕ) → (said (verdictOf s r) ≡ 14 ∷ x ∷ i ∷ []) ↔ FirstHarm L (lone s r) x i
-  shown-at x i = same-said _ _ _ is (harm-at L (lone s r) x i)
+  is : verdictOn s rs ≡ harmTest L M
+  is = verdict-is s rs (j .0) (j .1)
 
-  harmless-is : (said (verdictOf s r) ≡ []) ↔ NoHarm L (lone s r) (patterns L)
-  harmless-is = same-said _ _ _ is (harm-none L (lone s r))
+  shown-at : (x i : ℕ) → (said (verdictOn s rs) ≡ 14 ∷ x ∷ i ∷ []) ↔ FirstHarm L M x i
+  shown-at x i = same-said _ _ _ is (harm-at L M x i)
 
-  harmful-is : ((x : ℕ) × (i : ℕ) × (said (verdictOf s r) ≡ 14 ∷ x ∷ i ∷ [])) ↔ ((x : ℕ) × (i : ℕ) × Changes s r x i)
+  harmless-is : (said (verdictOn s rs) ≡ []) ↔ NoHarm L M (patterns L)
+  harmless-is = same-said _ _ _ is (harm-none L M)
+
+  harmful-is : ((x : ℕ) × (i : ℕ) × (said (verdictOn s rs) ≡ 14 ∷ x ∷ i ∷ [])) ↔ ((x : ℕ) × (i : ℕ) × Changes s rs x i)
   harmful-is = (
     λ f. let h = shown-at (f .0) (f .1) .0 (f .2) in
         (f .0, f .1, (h .pattern, h .output, h .harm)),
-    λ f. ⊎-elim (λ e. clash (f .2 .2) (harm-done L (lone s r) .0 e (f .0) (f .1) (f .2 .0) (f .2 .1)))
-        (λ h. (h .0, h .1, ap said (is ∙ h .2))) (harm-only L (lone s r)),
+    λ f. ⊎-elim (λ e. clash (f .2 .2) (harm-done L M .0 e (f .0) (f .1) (f .2 .0) (f .2 .1)))
+        (λ h. (h .0, h .1, ap said (is ∙ h .2))) (harm-only L M),
   )
 
 -- ## In every session that a load and exchanges give
@@ -144,14 +150,22 @@ demand2 = record {
   patternSets = λ s buffer. fills-done s (setWords s (s .m)) buffer;
   counts = λ s g v. counts-are s v g;
   harmful = harmful-is;
-  shown = λ s r x i j. shown-at s r j x i;
+  shown = λ s rs x i j. shown-at s rs j x i;
   harmless = harmless-is;
+  judged = judged-of;
+  few = few-of;
+  faulted = faulted-of;
+  pairExact = pair-exact-of;
+  listed = listed-of;
+  unequal = unequal-of;
+  lone = lone-of;
   written = λ s buffer v l. ap (withLength (length (bytesOf s))) (fills-done s (bytesOf s) buffer v l);
   roundTrip = λ s shape v. let w = round-trip s shape (state-e s v) .1 in
       (w .session, w .reads, w .loaded, w .current);
   reached = λ bytes s rs b loads. after-reached s (loaded-fresh bytes s loads) rs (loaded-shaped bytes s b loads);
   rule4 = rule4-of;
   inside = inside-of;
+  together = together-of;
 }
 
 -- ## Demand 3

@@ -23,8 +23,9 @@ use Rattle.network.specs.Tests.{member}
 use Rattle.network.specs.State.{stateTest}
 use Rattle.network.specs.Load.{loadDone, loadRefused, readOf, opened, loadOf}
 use Rattle.network.specs.Write.{bytesOf}
-use Rattle.network.specs.Calls.{fits, stored, exchangeOf, verdictOf, gateTables, tablesOf, setWords, patternSetsOf, countsOf, countsFor, writtenOf}
-use Rattle.network.specs.Sessions.{after, Demand3Of, NoHarm, FirstHarm, Rule4Of, InsideOf}
+use Rattle.network.specs.Calls.{stored, exchangeOf, verdictOf, verdictOn, gateTables, tablesOf, setWords, patternSetsOf, countsOf, countsFor, writtenOf}
+use Rattle.network.specs.Lists.{Sound, PairExactOf, JudgedOf, FaultedOf, FewOf, ListedOf, UnequalOf, LoneOf}
+use Rattle.network.specs.Sessions.{after, Demand3Of, NoHarm, FirstHarm, Rule4Of, InsideOf, TogetherOf}
 
 -- ## Demand 1: for every file, buffer, table and session state, a call ends in one of the listed outcomes, or in a numbered refusal
 -- that changes neither state nor lent buffer
@@ -49,8 +50,8 @@ pub record Demand1 : Type 0 where
   -- an exchanged gate; a refusal leaves the session
   pub exchange : (s : Session) (r : Replacement)
       → Ends (exchangeOf s r) (record { answer = Done; session = stored s r }) (10 ∷ 11 ∷ 12 ∷ 13 ∷ []) (λ f. record { answer = Refused f; session = s })
-  -- a verdict: harmless, or else 14 names the harm
-  pub verdict : (s : Session) (r : Replacement) → Ends (verdictOf s r) Done (10 ∷ 11 ∷ 12 ∷ 14 ∷ []) Refused
+  -- a verdict on two lists: harmless, or else 14 names the harm
+  pub verdict : (s : Session) (gs ts : List ℕ) → Ends (verdictOf s gs ts) Done (10 ∷ 11 ∷ 12 ∷ 14 ∷ 15 ∷ 16 ∷ []) Refused
   -- a written file, with its length; a refusal leaves the buffer
   pub write : (s : Session) (buffer : List ℕ)
       → Ends (writtenOf s buffer) (record { answer = write.Written (length (bytesOf s)); buffer = overwritten (bytesOf s) buffer }) (9 ∷ 10 ∷ [])
@@ -58,19 +59,19 @@ pub record Demand1 : Type 0 where
   -- the number of patterns in H of each gate
   pub counts : (s : Session) → Ends (countsOf s) (countsFor Done s) (10 ∷ []) (λ r. countsFor (Refused r) s)
 
--- ## Demand 2: the tables are 01's, a lone replacement is judged exactly, and a network written and read again is the same
+-- ## Demand 2: the tables are 01's, a list of replacements is judged exactly, and a network written and read again is the same
 
--- the current network with one gate replaced
-abbrev pub lone : Session → Replacement → Net
-lone s r = replaced (currentNet s) (r ∷ [])
+-- the current network with all of them in place
+abbrev pub allInPlace : Session → List Replacement → Net
+allInPlace s rs = replaced (currentNet s) rs
 
 -- the pattern x, which is not excluded, changes output i
-abbrev pub Changes : Session → Replacement → ℕ → ℕ → Type 0
-Changes s r x i = (x < patterns (loadedNet s)) × (i < length (loadedNet s .outputs)) × (harms (loadedNet s) (lone s r) x i ≡ true)
+abbrev pub Changes : Session → List Replacement → ℕ → ℕ → Type 0
+Changes s rs x i = (x < patterns (loadedNet s)) × (i < length (loadedNet s .outputs)) × (harms (loadedNet s) (allInPlace s rs) x i ≡ true)
 
--- the state s, that 10 does not refuse, and a replacement that 11 and 12 do not
-abbrev pub Judged : Session → Replacement → Type 0
-Judged s r = (stateTest s ≡ Done) × (isGate (loadedNet s) (r .signal) ≡ true) × (fits (loadedNet s) r ≡ true)
+-- the state s, that 10 does not refuse, and a list of pairs that 11, 16 and 12 do not
+abbrev pub Judged : Session → List Replacement → Type 0
+Judged s rs = (stateTest s ≡ Done) × Sound (loadedNet s) [] rs
 
 -- what a session t that exchanges gave, from the session s of a load, has
 pub record Reached (s t : Session) : Type 0 where
@@ -95,13 +96,23 @@ pub record Demand2 : Type 0 where
       → patternSetsOf s buffer ≡ record { answer = Done; buffer = overwritten (setWords s (s .m)) buffer }
   -- and the number of patterns in H of each gate
   pub counts : (s : Session) (g : ℕ) → stateTest s ≡ Done → g < s .m → getD (countsOf s .counts) g 0 ≡ compatibleCount (loadedNet s) (s .n + g)
-  -- a lone replacement is found harmful exactly when some pattern that is not excluded changes an output
-  pub harmful : (s : Session) (r : Replacement) → Judged s r
-      → ((x : ℕ) × (i : ℕ) × (said (verdictOf s r) ≡ 14 ∷ x ∷ i ∷ [])) ↔ ((x : ℕ) × (i : ℕ) × Changes s r x i)
+  -- harm is found exactly when some pattern that is not excluded changes an output with all of the list in place
+  pub harmful : (s : Session) (rs : List Replacement) → Judged s rs
+      → ((x : ℕ) × (i : ℕ) × (said (verdictOn s rs) ≡ 14 ∷ x ∷ i ∷ [])) ↔ ((x : ℕ) × (i : ℕ) × Changes s rs x i)
   -- the pattern and the output that are shown: the smallest pattern and, there, the lowest output
-  pub shown : (s : Session) (r : Replacement) (x i : ℕ) → Judged s r → (said (verdictOf s r) ≡ 14 ∷ x ∷ i ∷ []) ↔ FirstHarm (loadedNet s) (lone s r) x i
+  pub shown : (s : Session) (rs : List Replacement) (x i : ℕ) → Judged s rs → (said (verdictOn s rs) ≡ 14 ∷ x ∷ i ∷ []) ↔ FirstHarm (loadedNet s) (allInPlace s rs) x i
   -- and else harmless
-  pub harmless : (s : Session) (r : Replacement) → Judged s r → (said (verdictOf s r) ≡ []) ↔ NoHarm (loadedNet s) (lone s r) (patterns (loadedNet s))
+  pub harmless : (s : Session) (rs : List Replacement) → Judged s rs → (said (verdictOn s rs) ≡ []) ↔ NoHarm (loadedNet s) (allInPlace s rs) (patterns (loadedNet s))
+  -- the lists that are judged, with no more pairs than gates; of the others the first pair at fault decides, with exactly its cause
+  pub judged : JudgedOf
+  pub few : FewOf
+  pub faulted : FaultedOf
+  pub pairExact : PairExactOf
+  -- nothing is lost by speaking of pairs: two lists of one length are such a list, and others are refused by 15
+  pub listed : ListedOf
+  pub unequal : UnequalOf
+  -- the verdict on a list of one is the lone verdict of 01
+  pub lone : LoneOf
   -- a network is written into every buffer that is long enough
   pub written : (s : Session) (buffer : List ℕ) → stateTest s ≡ Done → length (bytesOf s) ≤ length buffer
       → writtenOf s buffer ≡ record { answer = write.Written (length (bytesOf s)); buffer = overwritten (bytesOf s) buffer }
@@ -112,8 +123,10 @@ pub record Demand2 : Type 0 where
   pub reached : (bytes : List ℕ) (s : Session) (rs : List Replacement) → Bytes bytes → loadOf bytes ≡ loadDone s → Reached s (after s rs)
   -- and there a lone replacement is harmless exactly when it alters only entries of the full table
   pub rule4 : Rule4Of
-  -- of the loaded table too; each open entry is one of the full table, and an exchange that is accepted is harmless
+  -- of the loaded table too; and each open entry is one of the full table
   pub inside : InsideOf
+  -- there a list of exchanges that would be accepted is harmless as one replacement, and so is every part of it, and nothing at all
+  pub together : TogetherOf
 
 -- ## Demand 3: of every list of bytes that loads and every list of exchanges
 

@@ -47,15 +47,15 @@ pub fn exchange(s: Session, gate: usize, table: u64) -> Exchanged
     }
 }
 
-// Of the current network with one gate replaced, against the loaded outputs.
-pub fn verdict(s: Session, gate: usize, table: u64) -> Answer
-    ensures { λ r. ⌜ r ≡ verdictOf s (record { signal = gate; table = table }) ⌝ }
+// Of the current network with all of the gates replaced, each by its table, against the loaded outputs.
+pub fn verdict(s: Session, gates: &[u64], tables: &[u64]) -> Answer
+    ensures { λ r. ⌜ r ≡ verdictOf s (now (gates .entry)) (now (tables .entry)) ⌝ }
 {
     let v = state::state_test(s);
     if let Answer::Refused(_) = v {
         return v;
     }
-    answers::verdict(s, gate, table)
+    answers::verdict(s, gates, tables)
 }
 
 // The SDC, CDC, full and open table of a gate.

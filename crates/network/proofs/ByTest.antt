@@ -5,21 +5,21 @@ use mathlib.Core.Logic.{⊎-elim}
 use mathlib.Core.Bool.{Bool, true, false, not, _&&_}
 use mathlib.Core.List.{List, [], _∷_}
 use Prim.Native.Nat.{ℕ, _≤_}
-use lib.Dec.{ltb}
+use lib.Dec.{eqb, ltb}
 use lib.ListN.{length}
-use borrow.Author.Tests.{ltb-false, not-false}
+use borrow.Author.Tests.{eqb-true, ltb-false, not-false}
 use Rattle.bits.specs.declared.Found.{Found}
 use Rattle.bits.specs.declared.Found.the-variants.{At, Nothing}
 use Rattle.bits.specs.Range.{smallest}
 use Rattle.network.specs.declared.Session.{Session}
 use Rattle.network.specs.declared.Refusal.{Refusal}
-use Rattle.network.specs.declared.Refusal.the-variants.{BufferTooShort, InvalidState, NotAGate, TableTooWide, ClosedEntry, Harm}
+use Rattle.network.specs.declared.Refusal.the-variants.{BufferTooShort, InvalidState, NotAGate, TableTooWide, ClosedEntry, Harm, ListsUnequal, GateRepeated}
 use Rattle.network.specs.declared.Answer.{Answer}
 use Rattle.network.specs.declared.Answer.the-variants.{Done, Refused}
 use Rattle.network.specs.Net.{Net, isGate, entries, Replacement}
-use Rattle.network.specs.Tests.{refuseIf, orElse, first}
+use Rattle.network.specs.Tests.{refuseIf, orElse, first, member}
 use Rattle.network.specs.State.{stateFault, asInvalid, stateTest}
-use Rattle.network.specs.Calls.{gateTest, fits, tableTest, alters, entryFound, closedTest, harmTest, roomTest}
+use Rattle.network.specs.Calls.{gateTest, fits, tableTest, alters, entryFound, closedTest, harmTest, lengthsTest, pairTest, pairsTest, roomTest}
 use Rattle.network.proofs.Harm.{harm-only}
 
 -- Q of the answer of a test and of those behind it, as a property of the test
@@ -72,6 +72,11 @@ module _ (Q : Answer → Type 0) where
   pub harm-by : (L M : Net) → ((x i : ℕ) → Q (Refused (Harm x i))) → Q Done → Q (harmTest L M)
   harm-by L M p q = ⊎-elim (λ e. rw e q) (λ f. rw (f .2) (p (f .0) (f .1))) (harm-only L M)
 
+  -- 15
+  pub lengths-by : (gs ts : List ℕ) → Q (Refused ListsUnequal) → (length gs ≡ length ts → Q Done) → Q (lengthsTest gs ts)
+  unfolding lengthsTest
+  lengths-by gs ts p q = not-by (eqb (length gs) (length ts)) ListsUnequal p (λ e. q (eqb-true (length gs) (length ts) e))
+
   -- ## A list of tests
 
   pub or-by : (a b : Answer) → Q a → Q b → Q (orElse a b)
@@ -85,3 +90,14 @@ module _ (Q : Answer → Type 0) where
   pub first-by : Q Done → (tests : List Answer) → Each tests → Q (first tests)
   first-by done [] p = done
   first-by done (a ∷ rest) p = or-by a (first rest) (p .0) (first-by done rest (p .1))
+
+  -- 11, 16 and 12 of each pair
+  pub pairs-by : (N : Net) (named : List ℕ) (rs : List Replacement) → Q (Refused NotAGate) → Q (Refused GateRepeated) → Q (Refused TableTooWide) → Q Done
+      → Q (pairsTest N named rs)
+  unfolding pairTest
+  pairs-by N named [] g t w done = done
+  pairs-by N named (r ∷ rs) g t w done =
+      or-by (pairTest N named r) (pairsTest N (r .signal ∷ named) rs)
+      (first-by done (gateTest N (r .signal) ∷ refuseIf (member (r .signal) named) GateRepeated ∷ tableTest N r ∷ [])
+      (gate-by N (r .signal) g (λ _. done), (if-by (member (r .signal) named) GateRepeated t (λ _. done), (table-by N r w (λ _. done), tt))))
+      (pairs-by N (r .signal ∷ named) rs g t w done)

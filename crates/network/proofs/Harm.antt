@@ -1,8 +1,7 @@
 -- What the test for harm, refusal 14, finds: nothing exactly where no pattern harms an output, else the smallest pattern that harms
--- one and, there, the lowest output; and a verdict as this search. Assumes nothing.
+-- one and, there, the lowest output. Assumes nothing.
 use mathlib.Core.Path.{_≡_, refl, sym, ap, _∙_}
 use mathlib.Core.Logic.{_⊎_, inl, inr, ⊎-elim, _↔_}
-use mathlib.Core.Bool.{true}
 use mathlib.Core.List.{[], _∷_}
 use Prim.Native.Nat.{ℕ, zero, suc, _+_, _<_}
 use native.Mathlib.Nat.{not-suc-le-zero}
@@ -15,19 +14,15 @@ use Rattle.bits.specs.Range.{upFrom, smallest}
 use Rattle.bits.proofs.Ranges.{lt-cases}
 use Rattle.bits.proofs.Logic.{clash}
 use Rattle.bits.proofs.Search.{Smallest, smallest-is}
-use Rattle.network.specs.declared.Session.{Session}
 use Rattle.network.specs.declared.Refusal.the-variants.{Harm}
 use Rattle.network.specs.declared.Answer.{Answer}
 use Rattle.network.specs.declared.Answer.the-variants.{Done, Refused}
-use Rattle.network.specs.Net.{Net, isGate, patterns, patternOrder, Replacement, replaced}
+use Rattle.network.specs.Net.{Net, patterns, patternOrder}
 use Rattle.network.specs.DontCares.{harms}
-use Rattle.network.specs.Flat.{loadedNet, currentNet}
 use Rattle.network.specs.Refusals.{said}
 use Rattle.network.specs.Tests.{orElse}
-use Rattle.network.specs.State.{stateTest}
-use Rattle.network.specs.Calls.{gateTest, fits, tableTest, outputFound, harmIn, harmTest, verdictOf}
+use Rattle.network.specs.Calls.{outputFound, harmIn, harmTest}
 use Rattle.network.specs.Sessions.{NoHarm, FirstHarm}
-use Rattle.network.proofs.TestLaws.{alone}
 use Rattle.network.proofs.Said.{said-done}
 
 module _ (L M : Net) where
@@ -94,9 +89,3 @@ module _ (L M : Net) where
     λ h. ⊎-elim (λ n. clash (h .harm) (n .1 x i (h .pattern) (h .output)))
         (λ f. let o = harm-one (f .3) h in rw (sym (o .0), sym (o .1)) (ap said (f .2))) harm-is,
   )
-
--- a verdict on a replacement that 11 and 12 do not refuse is the search for harm
-pub verdict-is : (s : Session) (r : Replacement) → stateTest s ≡ Done → isGate (loadedNet s) (r .signal) ≡ true → fits (loadedNet s) r ≡ true
-    → verdictOf s r ≡ harmTest (loadedNet s) (replaced (currentNet s) (r ∷ []))
-unfolding verdictOf gateTest tableTest
-verdict-is s r v w k = rw (v, w, k) (sym (alone (harmTest (loadedNet s) (replaced (currentNet s) (r ∷ [])))))

@@ -1,5 +1,5 @@
--- Open lies inside full, in every session that a load and exchanges give: an exchange that is accepted is harmless, so each open entry
--- of a gate is one of its full table, and rule 4 holds with the loaded table for what is altered. Assumes nothing.
+-- Open lies inside full, in every session that a load and exchanges give: an exchange that would be accepted is harmless, so each open
+-- entry of a gate is one of its full table, and rule 4 holds with the loaded table for what is altered. Assumes nothing.
 use mathlib.Core.Path.{_≡_, refl, sym, ap, _∙_, subst}
 use mathlib.Core.Logic.{_↔_}
 use mathlib.Core.Bool.{Bool, true, false, not, cond}
@@ -24,113 +24,36 @@ use Rattle.network.specs.DontCares.{full, harms}
 use Rattle.network.specs.Compatible.{closed, openTable}
 use Rattle.network.specs.Flat.{gateAt, gatesOf, netOf, netWith, loadedNet, currentNet}
 use Rattle.network.specs.Refusals.{said}
-use Rattle.network.specs.Calls.{fits, alters, harmTest, verdictOf}
+use Rattle.network.specs.Calls.{fits, alters, verdictOn}
 use Rattle.network.specs.Sessions.{after, answerBy, took, lastAccepted, finalTables, NoHarm, Inside, InsideOf}
 use Rattle.network.proofs.Fresh.{Fresh}
 use Rattle.network.proofs.Valid.{state-i}
 use Rattle.network.proofs.FlatGates.{length-gates}
 use Rattle.network.proofs.Earlier.{gates-at}
 use Rattle.network.proofs.Said.{said-done}
-use Rattle.network.proofs.Harm.{harm-done, verdict-is}
 use Rattle.network.proofs.Lone.{lone-session}
 use Rattle.network.proofs.Reached.{loaded-fresh}
 use Rattle.network.proofs.Exchanges.{accepts, accepts-e, answer-because, answer-only-because, Cause, gate-e, open-bit, set-at, gates-most, after-valid, after-loaded}
-use Rattle.network.proofs.Demand3.{KeepsClosed, last-keeps, last-append, outputs-stay, final-at, current-is, outputs-loaded, demand3}
-
--- ## What a verdict judges is the network that the exchange would give
-
-gates-set : (ks fs ts : List ℕ) (m i t : ℕ) → i < m → i < length ts
-    → gatesOf ks fs (set ts i t) m ≡ set (gatesOf ks fs ts m) i (withTable (getD (gatesOf ks fs ts m) i noGate) t)
-unfolding gateAt
-gates-set ks fs ts m i t h l =
-    ext-getD noGate (gatesOf ks fs (set ts i t) m) (set gs i new)
-    (length-gates ks fs (set ts i t) m ∙ sym (length-set gs i new ∙ length-gates ks fs ts m))
-    (λ j k. at j (omega (arith, length-gates ks fs (set ts i t) m)) (ℕ-discrete j i))
-  where
-    gs : List Gate
-    gs = gatesOf ks fs ts m
-
-    new : Gate
-    new = withTable (getD gs i noGate) t
-
-    at : (j : ℕ) → j < m → Dec (j ≡ i) → getD (gatesOf ks fs (set ts i t) m) j noGate ≡ getD (set gs i new) j noGate
-    at j k (yes e) =
-        rw e (gates-at ks fs (set ts i t) m i h ∙ ap (withTable (gateAt ks fs ts i)) (getD-set-same ts i t 0 l)
-        ∙ sym (getD-set-same gs i new noGate (omega (arith, length-gates ks fs ts m)) ∙ ap (λ (g : Gate). withTable g t) (gates-at ks fs ts m i h)))
-    at j k (no n) =
-        gates-at ks fs (set ts i t) m j k ∙ ap (withTable (gateAt ks fs ts j)) (getD-set-other ts i j t 0 n)
-        ∙ sym (getD-set-other gs i j new noGate n ∙ gates-at ks fs ts m j k)
-
-net-set : (s : Session) (ts : List ℕ) (r : Replacement) → s .n ≤ r .signal → r .signal < s .n + s .m → length ts ≡ mostGates → s .m ≤ mostGates
-    → netWith s (set ts (r .signal - s .n) (r .table)) ≡ replaced (netWith s ts) (r ∷ [])
-unfolding netOf
-net-set s ts r a b l k = ap (withGates (netWith s ts)) (gates-set (s .arity) (s .fanins) ts (s .m) (r .signal - s .n) (r .table) (omega arith) (omega arith))
-
--- ## An exchange that is accepted is harmless
+use Rattle.network.proofs.Demand3.{KeepsClosed, last-keeps, outputs-loaded, demand3}
+use Rattle.network.proofs.Together.{together}
 
 module _ (s : Session) (fresh : Fresh s) (rs : List Replacement) where
   abbrev N : Net
   N = loadedNet s
 
-  abbrev ts : List ℕ
-  ts = finalTables s rs
-
   -- the session after the exchanges
   abbrev now : Session
   now = after s rs
-
-  sized : length ts ≡ mostGates
-  sized = length-places mostGates (λ g. lastAccepted N rs (s .n + g) (getD (s .loaded) g 0))
-
-  outputs-length : length (N .outputs) ≡ s .p
-  unfolding loadedNet netOf
-  outputs-length = length-places (s .p) (λ i. getD (s .outputs) i 0)
-
-  module _ (r : Replacement) (done : answerBy N r ≡ Done) where
-    why : (isGate N (r .signal) ≡ true) × (fits N r ≡ true)
-    why = let c = accepts-e (subst (Cause N r) done (answer-because N r)) in (c .0, c .1)
-
-    -- with it, each gate has the table of its last accepted exchange
-    last-with : (g : ℕ) → g < s .m → getD (set ts (r .signal - s .n) (r .table)) g 0 ≡ lastAccepted N (rs ++ r ∷ []) (s .n + g) (getD (s .loaded) g 0)
-    last-with g h =
-        let b = gate-e s (r .signal) (why .0) in
-        set-at (s .n) (r .signal) (r .table) ts (b .0) (omega (arith, sized, gates-most s fresh)) g
-        ∙ ap (cond (eqb (r .signal) (s .n + g)) (r .table)) (final-at s fresh rs g h)
-        ∙ ap (λ (a : Answer). took a r (s .n + g) (lastAccepted N rs (s .n + g) (getD (s .loaded) g 0))) (sym done)
-        ∙ sym (last-append N rs (r ∷ []) (s .n + g) (getD (s .loaded) g 0))
-
-    output-with : (x i : ℕ) → x < patterns N → i < s .p → excludedFor N i x ≡ false → output (replaced (currentNet now) (r ∷ [])) x i ≡ output N x i
-    output-with x i hx hi n =
-        let b = gate-e s (r .signal) (why .0) in
-        ap (λ (C : Net). output (replaced C (r ∷ [])) x i) (current-is s fresh rs)
-        ∙ ap (λ (M : Net). output M x i) (sym (net-set s ts r (b .0) (b .1) sized (gates-most s fresh)))
-        ∙ outputs-stay s (rs ++ r ∷ []) (set ts (r .signal - s .n) (r .table)) last-with (fresh .valid) x i hx hi n
-
-    no-harm : NoHarm N (replaced (currentNet now) (r ∷ [])) (patterns N)
-    unfolding harms
-    no-harm x i hx hi =
-        by-cases (excludedFor N i x) (λ e. rw e)
-        (λ e. rw (e, output-with x i hx (omega (arith, outputs-length)) e, beq-i (output N x i) (output N x i) refl))
-
-    harmless-now : verdictOf now r ≡ Done
-    harmless-now =
-        let same = after-loaded s fresh rs in
-        verdict-is now r (state-i now (after-valid s fresh rs)) (ap (λ (L : Net). isGate L (r .signal)) same ∙ why .0) (ap (λ (L : Net). fits L r) same ∙ why .1)
-        ∙ ap (λ (L : Net). harmTest L (replaced (currentNet now) (r ∷ []))) same
-        ∙ harm-done N (replaced (currentNet now) (r ∷ [])) .1 no-harm
-
-  pub accepted-harmless : (r : Replacement) → said (answerBy N r) ≡ [] → said (verdictOf now r) ≡ []
-  accepted-harmless r e = ap said (harmless-now r (said-done (answerBy N r) .0 e))
 
   -- ## Each open entry is an entry of the full table
 
   -- rule 4 against the current table
   rule4-now : (r : Replacement) → isGate N (r .signal) ≡ true → fits N r ≡ true
-      → (said (verdictOf now r) ≡ []) ↔ ((t : ℕ) → t < entries N (r .signal) → alters (currentNet now) r t ≡ true → bit (full (currentNet now) (r .signal)) t ≡ true)
+      → (said (verdictOn now (r ∷ [])) ≡ []) ↔ ((t : ℕ) → t < entries N (r .signal) → alters (currentNet now) r t ≡ true → bit (full (currentNet now) (r .signal)) t ≡ true)
   rule4-now r =
       subst
       (λ (L : Net). isGate L (r .signal) ≡ true → fits L r ≡ true
-      → (said (verdictOf now r) ≡ []) ↔ ((t : ℕ) → t < entries L (r .signal) → alters (currentNet now) r t ≡ true → bit (full (currentNet now) (r .signal)) t ≡ true))
+      → (said (verdictOn now (r ∷ [])) ≡ []) ↔ ((t : ℕ) → t < entries L (r .signal) → alters (currentNet now) r t ≡ true → bit (full (currentNet now) (r .signal)) t ≡ true))
       (after-loaded s fresh rs) (lone-session now (after-valid s fresh rs) (outputs-loaded s fresh rs) r)
 
   module _ (g : ℕ) (w : isGate N g ≡ true) where
@@ -177,7 +100,7 @@ module _ (s : Session) (fresh : Fresh s) (rs : List Replacement) where
 
     open-full : (t : ℕ) → t < entries N g → closed N g t ≡ false → bit (full (currentNet now) g) t ≡ true
     open-full t h o =
-        rule4-now (turned t) w (lt-ltb _ _ (table-lt (entries N g) (λ u. differs (eqb u t) (bit c u)))) .0 (ap said (harmless-now (turned t) (turned-accepted t o))) t h (turned-alters t h)
+        rule4-now (turned t) w (lt-ltb _ _ (table-lt (entries N g) (λ u. differs (eqb u t) (bit c u)))) .0 (together s fresh rs .lone (turned t) (ap said (turned-accepted t o))) t h (turned-alters t h)
 
   pub open-in-full : (g t : ℕ) → isGate N g ≡ true → bit (openTable N g) t ≡ true → bit (full (currentNet now) g) t ≡ true
   unfolding openTable
@@ -202,7 +125,7 @@ module _ (s : Session) (fresh : Fresh s) (rs : List Replacement) where
     within-same M L same f t h a = by-cases (bit (full (currentNet now) (r .signal)) t) (λ k. k) (λ k. f t h (sym (same t h k) ∙ a))
 
   pub rule4-loaded : (r : Replacement) → isGate N (r .signal) ≡ true → fits N r ≡ true
-      → (said (verdictOf now r) ≡ []) ↔ ((t : ℕ) → t < entries N (r .signal) → alters N r t ≡ true → bit (full (currentNet now) (r .signal)) t ≡ true)
+      → (said (verdictOn now (r ∷ [])) ≡ []) ↔ ((t : ℕ) → t < entries N (r .signal) → alters N r t ≡ true → bit (full (currentNet now) (r .signal)) t ≡ true)
   rule4-loaded r w f =
       let l = rule4-now r w f in
       let same = alters-same r w in (
@@ -211,7 +134,7 @@ module _ (s : Session) (fresh : Fresh s) (rs : List Replacement) where
       )
 
   pub inside : Inside s rs
-  inside = record { openInFull = open-in-full; rule4Loaded = rule4-loaded; acceptedHarmless = accepted-harmless }
+  inside = record { openInFull = open-in-full; rule4Loaded = rule4-loaded }
 
 -- ## Of every list of bytes that loads
 

@@ -8,10 +8,13 @@ pub mod Said
 pub mod Cases
 pub mod Harm
 pub mod ByTest
+pub mod Lists
 pub mod Lone
 pub mod Slots
 pub mod Reached
 pub mod Safe
 pub mod Exchanges
 pub mod Demand3
+pub mod Replaced
+pub mod Together
 pub mod Inside

@@ -20,13 +20,14 @@ use Rattle.network.specs.Net.{Gate, Net, arity, isGate, noGate, gate, en
 use Rattle.network.specs.DontCares.{runInverted, valuesInverted, outputKept, odc, full, harms}
 use Rattle.network.specs.Flat.{gatesOf, netOf, loadedNet, currentNet}
 use Rattle.network.specs.State.{stateFault}
-use Rattle.network.specs.Calls.{alters, harmTest, verdictOf}
+use Rattle.network.specs.Calls.{alters, harmTest, verdictOn}
 use Rattle.network.specs.Sessions.{NoHarm, LoneHarmless}
 use Rattle.network.proofs.FlatGates.{arity-at, length-gates}
 use Rattle.network.proofs.Valid.{state-i, net-ok}
 use Rattle.network.proofs.Earlier.{Earlier, earlier-net, gates-at, gate-bounds, entry-below, entry-keep}
 use Rattle.network.proofs.Said.{said-done}
-use Rattle.network.proofs.Harm.{harm-done, verdict-is}
+use Rattle.network.proofs.Harm.{harm-done}
+use Rattle.network.proofs.Lists.{verdict-is}
 
 -- ## Values with one table replaced
 
@@ -178,8 +179,8 @@ module _ (s : Session) where
           let l = lone (currentNet s) early r (loaded-gate (r .signal) ∙ w) in
           let j = judged (replaceOne (currentNet s) r) in
           let q = loaded-arity (r .signal) w in
-          let e = verdict-is s r (state-i s valid) w k in
-          let d = said-done (verdictOf s r) in (
+          let e = verdict-is s (r ∷ []) (state-i s valid) (w, refl, k, tt) in
+          let d = said-done (verdictOn s (r ∷ [])) in (
             λ a t h. l .0 (j .0 (sym e ∙ d .0 a)) t (rw q at h),
             λ f. d .1 (e ∙ j .1 (l .1 (λ t h. f t (rw q h)))),
           )

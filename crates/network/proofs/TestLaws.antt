@@ -35,7 +35,7 @@ kept b r h = not-false b (passed (not b) r h)
 
 -- ## A list of tests
 
-both : (a b : Answer) → orElse a b ≡ Done → (a ≡ Done) × (b ≡ Done)
+pub both : (a b : Answer) → orElse a b ≡ Done → (a ≡ Done) × (b ≡ Done)
 both Done b h = (refl, h)
 both (Refused r) b h = refused-done r h
 

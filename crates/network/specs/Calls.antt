@@ -1,9 +1,10 @@
 -- Every call of 01 but load, as a function from all that it is given to all that it leaves: the answer, the session, each word or
--- byte of a lent buffer. Each call's tests stand in 01's order: 10 before all else, then 9, or 11, 12 and 13 or 14. Assumes nothing.
+-- byte of a lent buffer. Each call's tests stand in 01's order: 10 before all else, then 9, or 15, and of each gate 11, 16 and 12, then
+-- 13 or 14. Assumes nothing.
 use mathlib.Core.Bool.{Bool, not, _&&_}
-use mathlib.Core.List.{List, [], _∷_, _++_}
+use mathlib.Core.List.{List, [], _∷_, _++_, map}
 use Prim.Native.Nat.{ℕ, zero, suc, _+_, _-_, _^_}
-use lib.Dec.{ltb}
+use lib.Dec.{eqb, ltb}
 use lib.ListN.{length, getD, set, replicate}
 use Rattle.bits.specs.declared.Found.{Found}
 use Rattle.bits.specs.declared.Found.the-variants.{At, Nothing}
@@ -18,7 +19,7 @@ use Rattle.network.specs.declared.TablesAnswer.the-variants as tables
 use Rattle.network.specs.declared.WriteAnswer.{WriteAnswer}
 use Rattle.network.specs.declared.WriteAnswer.the-variants as write
 use Rattle.network.specs.declared.Counts.{Counts}
-use Rattle.network.specs.declared.Refusal.the-variants.{BufferTooShort, NotAGate, TableTooWide, ClosedEntry, Harm}
+use Rattle.network.specs.declared.Refusal.the-variants.{BufferTooShort, NotAGate, TableTooWide, ClosedEntry, Harm, ListsUnequal, GateRepeated}
 use Rattle.network.specs.declared.Answer.{Answer}
 use Rattle.network.specs.declared.Answer.the-variants.{Done, Refused}
 use Rattle.network.specs.Bounds.{mostGates}
@@ -26,7 +27,7 @@ use Rattle.network.specs.Net.{Net, isGate, gate, entries, patternOrder, 
 use Rattle.network.specs.DontCares.{sdc, cdc, odc, full, harms}
 use Rattle.network.specs.Compatible.{compatible, compatibleCount, perGate}
 use Rattle.network.specs.Flat.{loadedNet, currentNet, wordsOf}
-use Rattle.network.specs.Tests.{refuseIf, orElse, first}
+use Rattle.network.specs.Tests.{refuseIf, orElse, first, member}
 use Rattle.network.specs.State.{stateTest}
 use Rattle.network.specs.Write.{bytesOf}
 
@@ -109,17 +110,45 @@ exchanged (Refused f) s r = record { answer = Refused f; session = s }
 unfoldable pub exchangeOf : Session → Replacement → Exchanged
 exchangeOf s r = exchanged (exchangeAnswer s r) s r
 
--- ## Verdict: of the current network with one gate replaced, against the loaded outputs; it changes nothing
+-- ## Verdict: of the current network with a list of gates replaced, against the loaded outputs; it changes nothing
 
-unfoldable pub verdictOf : Session → Replacement → Answer
-verdictOf s r =
+-- 15: as many gates as tables
+unfoldable pub lengthsTest : (gates tables : List ℕ) → Answer
+lengthsTest gs ts = refuseIf (not (eqb (length gs) (length ts))) ListsUnequal
+
+-- gate by gate with its table, as far as both lists go
+abbrev pub pairs : (gates tables : List ℕ) → List Replacement
+pairs [] ts = []
+pairs (g ∷ gs) [] = []
+pairs (g ∷ gs) (t ∷ ts) = record { signal = g; table = t } ∷ pairs gs ts
+
+-- the tables ts of the gates from signal n on, with those of the pairs stored
+abbrev pub storedAll : (n : ℕ) → List Replacement → (ts : List ℕ) → List ℕ
+storedAll n [] ts = ts
+storedAll n (r ∷ rs) ts = storedAll n rs (set ts (r .signal - n) (r .table))
+
+-- of one pair, where those before it name these gates: 11, then 16, then 12
+unfoldable pub pairTest : Net → (named : List ℕ) → Replacement → Answer
+pairTest N named r = first (gateTest N (r .signal) ∷ refuseIf (member (r .signal) named) GateRepeated ∷ tableTest N r ∷ [])
+
+-- the pairs in order
+abbrev pub pairsTest : Net → (named : List ℕ) → List Replacement → Answer
+pairsTest N named [] = Done
+pairsTest N named (r ∷ rs) = orElse (pairTest N named r) (pairsTest N (r .signal ∷ named) rs)
+
+unfoldable pub verdictOf : Session → (gates tables : List ℕ) → Answer
+verdictOf s gs ts =
     first (
     stateTest s
-    ∷ gateTest (loadedNet s) (r .signal)
-    ∷ tableTest (loadedNet s) r
-    ∷ harmTest (loadedNet s) (replaced (currentNet s) (r ∷ []))
+    ∷ lengthsTest gs ts
+    ∷ pairsTest (loadedNet s) [] (pairs gs ts)
+    ∷ harmTest (loadedNet s) (replaced (currentNet s) (pairs gs ts))
     ∷ []
     )
+
+-- the same of a list of pairs
+abbrev pub verdictOn : Session → List Replacement → Answer
+verdictOn s rs = verdictOf s (map (λ r. r .signal) rs) (map (λ r. r .table) rs)
 
 -- ## Tables of a gate. The open table is the one that the session holds
 

@@ -15,7 +15,7 @@ use Rattle.network.specs.Compatible.{freeFanins, compatible, compatibleC
 use Rattle.network.specs.Refusals.{said, saidTables, saidWrite}
 use Rattle.network.specs.Load.{readOf, loadOf}
 use Rattle.network.specs.Write.{bytesOf}
-use Rattle.network.specs.Calls.{exchangeOf, verdictOf, harmTest, tablesOf, writeOf, writeAnswer}
+use Rattle.network.specs.Calls.{exchangeOf, verdictOn, harmTest, tablesOf, writeOf, writeAnswer}
 use Rattle.network.specs.Sessions.{after}
 use Rattle.network.specs.Examples.{twinBytes, twinSession, twinNet, chainBytes, chainSession, wideBytes, wideSession, wideNet, multiOutputBytes, multiOutputSession, multiOutputNet, freeing, tourFirst, tourSecond, tour, sumOfProducts, controlThree, controlFour, observe, segment}
 
@@ -37,7 +37,7 @@ abbrev pub exchangeSaid : Session → List Replacement → Replacement → List 
 exchangeSaid s rs r = said (exchangeOf (after s rs) r .answer)
 
 abbrev pub verdictSaid : Session → List Replacement → Replacement → List ℕ
-verdictSaid s rs r = said (verdictOf (after s rs) r)
+verdictSaid s rs r = said (verdictOn (after s rs) (r ∷ []))
 
 abbrev pub loneSaid : Net → Replacement → List ℕ
 loneSaid N r = said (harmTest N (replaced N (r ∷ [])))

@@ -52,6 +52,13 @@ observe = net 3 0 (g (0 ∷ 1 ∷ []) 0x6 ∷ g (0 ∷ 1 ∷ 3 ∷ 2 ∷ []) 0xB
 abbrev pub segment : Net
 segment = net 4 0xFC00 (g (0 ∷ 1 ∷ 2 ∷ 3 ∷ []) 0x3ED ∷ []) (4 ∷ [])
 
+-- the XOR of two copies of the input, and the OR of three
+abbrev pub twoCopies : Net
+twoCopies = net 1 0 (g (0 ∷ []) 0x2 ∷ g (0 ∷ []) 0x2 ∷ g (1 ∷ 2 ∷ []) 0x6 ∷ []) (3 ∷ [])
+
+abbrev pub threeCopies : Net
+threeCopies = net 1 0 (g (0 ∷ []) 0x2 ∷ g (0 ∷ []) 0x2 ∷ g (0 ∷ []) 0x2 ∷ g (1 ∷ 2 ∷ 3 ∷ []) 0xFE ∷ []) (4 ∷ [])
+
 -- ## Files and sessions
 
 abbrev pub twinBytes : List ℕ

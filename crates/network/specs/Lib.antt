@@ -11,5 +11,7 @@ pub mod Load
 pub mod Write
 pub mod Calls
 pub mod Sessions
+pub mod Lists
 pub mod Examples
 pub mod Cases
+pub mod ListCases

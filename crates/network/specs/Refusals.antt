@@ -4,7 +4,7 @@ use mathlib.Core.List.{List, [], _∷_}
 use Prim.Native.Nat.{ℕ, _≤_}
 use lib.ListN.{take}
 use Rattle.network.specs.declared.Refusal.{Refusal}
-use Rattle.network.specs.declared.Refusal.the-variants.{Truncated, UnexpectedMark, OutOfBounds, FaninNotEarlier, FaninRepeated, BitPastEnd, NotASignal, TrailingBytes, BufferTooShort, InvalidState, NotAGate, TableTooWide, ClosedEntry, Harm}
+use Rattle.network.specs.declared.Refusal.the-variants.{Truncated, UnexpectedMark, OutOfBounds, FaninNotEarlier, FaninRepeated, BitPastEnd, NotASignal, TrailingBytes, BufferTooShort, InvalidState, NotAGate, TableTooWide, ClosedEntry, Harm, ListsUnequal, GateRepeated}
 use Rattle.network.specs.declared.Named.{Named}
 use Rattle.network.specs.declared.Answer.{Answer}
 use Rattle.network.specs.declared.Answer.the-variants.{Done, Refused}
@@ -43,6 +43,10 @@ told TableTooWide = (12, [])
 told (ClosedEntry t) = (13, t ∷ [])
 -- 14 verdict: harm; names pattern and output
 told (Harm x i) = (14, x ∷ i ∷ [])
+-- 15 verdict: lists of unequal length
+told ListsUnequal = (15, [])
+-- 16 verdict: a gate named a second time
+told GateRepeated = (16, [])
 
 abbrev pub numberOf : Refusal → ℕ
 numberOf r = told r .0
@@ -54,7 +58,7 @@ valuesOf r = told r .1
 pub record Tells (r : Refusal) (t : Named) : Type 0 where
   pub number : t .0 ≡ numberOf r
   pub values : take (t .1) (t .2) ≡ valuesOf r
-  pub small : t .0 ≤ 14
+  pub small : t .0 ≤ 16
   pub few : t .1 ≤ 2
 
 -- ## An answer in 01's numbers: nothing where the call is not refused, else the refusal's number and its values

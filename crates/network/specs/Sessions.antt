@@ -1,9 +1,9 @@
 -- Lists of exchanges, and demand 3 as one claim about a session that a load gave and a list: 01, 'What about sequences?'. Assumes nothing.
 use mathlib.Core.Path.{_≡_}
 use mathlib.Core.Logic.{_≢_, _↔_}
-use mathlib.Core.Bool.{true, false, cond}
+use mathlib.Core.Bool.{Bool, true, false, cond}
 use mathlib.Core.List.{List, [], _∷_, _++_, map}
-use Prim.Native.Nat.{ℕ, _+_, _<_}
+use Prim.Native.Nat.{ℕ, suc, _+_, _<_}
 use lib.Dec.{eqb}
 use lib.ListN.{length, getD}
 use Rattle.bits.specs.Range.{places}
@@ -17,9 +17,9 @@ use Rattle.network.specs.DontCares.{full, harms}
 use Rattle.network.specs.Compatible.{closed, openTable}
 use Rattle.network.specs.Flat.{loadedNet, currentNet}
 use Rattle.network.specs.Refusals.{said}
-use Rattle.network.specs.Tests.{first}
+use Rattle.network.specs.Tests.{first, member}
 use Rattle.network.specs.Load.{loadOf, loadDone}
-use Rattle.network.specs.Calls.{fits, alters, exchangeTests, exchangeOf, withCurrent, verdictOf}
+use Rattle.network.specs.Calls.{fits, alters, exchangeTests, exchangeOf, withCurrent, verdictOf, verdictOn}
 
 -- ## A list of exchanges: each gets the session that the one before it returned
 
@@ -114,7 +114,7 @@ pub record FirstHarm (L M : Net) (x i : ℕ) : Type 0 where
 abbrev pub LoneHarmless : Session → Replacement → Type 0
 LoneHarmless s r =
     isGate (loadedNet s) (r .signal) ≡ true → fits (loadedNet s) r ≡ true
-    → (said (verdictOf s r) ≡ []) ↔ ((t : ℕ) → t < entries (loadedNet s) (r .signal) → alters (currentNet s) r t ≡ true → bit (full (currentNet s) (r .signal)) t ≡ true)
+    → (said (verdictOn s (r ∷ [])) ≡ []) ↔ ((t : ℕ) → t < entries (loadedNet s) (r .signal) → alters (currentNet s) r t ≡ true → bit (full (currentNet s) (r .signal)) t ≡ true)
 
 abbrev pub Rule4Of : Type 0
 Rule4Of = (bytes : List ℕ) (s : Session) (rs : List Replacement) (r : Replacement) → loadOf bytes ≡ loadDone s → LoneHarmless (after s rs) r
@@ -126,11 +126,35 @@ pub record Inside (s : Session) (rs : List Replacement) : Type 0 where
   pub openInFull : (g t : ℕ) → isGate (loadedNet s) g ≡ true → bit (openTable (loadedNet s) g) t ≡ true → bit (full (currentNet (after s rs)) g) t ≡ true
   -- rule 4's second sentence, with the loaded table for what is altered
   pub rule4Loaded : (r : Replacement) → isGate (loadedNet s) (r .signal) ≡ true → fits (loadedNet s) r ≡ true
-      → (said (verdictOf (after s rs) r) ≡ [])
+      → (said (verdictOn (after s rs) (r ∷ [])) ≡ [])
       ↔ ((t : ℕ) → t < entries (loadedNet s) (r .signal) → alters (loadedNet s) r t ≡ true → bit (full (currentNet (after s rs)) (r .signal)) t ≡ true)
-  -- an exchange that is accepted is harmless
-  pub acceptedHarmless : (r : Replacement) → said (answerBy (loadedNet s) r) ≡ [] → said (verdictOf (after s rs) r) ≡ []
 
 -- of every list of bytes that loads
 abbrev pub InsideOf : Type 0
 InsideOf = (bytes : List ℕ) (s : Session) (rs : List Replacement) → loadOf bytes ≡ loadDone s → Inside s rs
+
+-- ## Several gates on one verdict, in every session that a load and exchanges give: s is the session of a load, es are the exchanges
+
+-- each of the pairs would be accepted as an exchange, and no gate stands twice among them and the named ones
+abbrev pub Acceptable : Net → (named : List ℕ) → List Replacement → Type 0
+Acceptable N named [] = Unit {0}
+Acceptable N named (r ∷ rs) = (said (answerBy N r) ≡ []) × (member (r .signal) named ≡ false) × Acceptable N (r .signal ∷ named) rs
+
+-- the pairs at the places that are picked
+abbrev pub picked : (ℕ → Bool) → List Replacement → List Replacement
+picked p [] = []
+picked p (r ∷ rs) = cond (p 0) (r ∷ []) [] ++ picked (λ i. p (suc i)) rs
+
+pub record Together (s : Session) (es : List Replacement) : Type 0 where
+  -- such a list, all in place at once, is harmless
+  pub whole : (rs : List Replacement) → Acceptable (loadedNet s) [] rs → said (verdictOn (after s es) rs) ≡ []
+  -- and so is every part of it
+  pub part : (rs : List Replacement) (p : ℕ → Bool) → Acceptable (loadedNet s) [] rs → said (verdictOn (after s es) (picked p rs)) ≡ []
+  -- the list of one: an exchange that would be accepted is harmless
+  pub lone : (r : Replacement) → said (answerBy (loadedNet s) r) ≡ [] → said (verdictOn (after s es) (r ∷ [])) ≡ []
+  -- nothing at all is harmless
+  pub empty : said (verdictOf (after s es) [] []) ≡ []
+
+-- of every list of bytes that loads
+abbrev pub TogetherOf : Type 0
+TogetherOf = (bytes : List ℕ) (s : Session) (es : List Replacement) → loadOf bytes ≡ loadDone s → Together s es

@@ -54,7 +54,7 @@ pub struct Session {
     pub outputs: [u8; MOST_OUTPUTS],
 }
 
-// Why a call is refused, in the order of the numbers 1 to 14.
+// Why a call is refused, in the order of the numbers 1 to 16.
 pub enum Refusal {
     Truncated,
     UnexpectedMark,
@@ -70,6 +70,8 @@ pub enum Refusal {
     TableTooWide,
     ClosedEntry(usize),
     Harm { pattern: usize, output: usize },
+    ListsUnequal,
+    GateRepeated,
 }
 
 // A refusal in numbers: its number, how many values it names, and these from the start.
@@ -182,12 +184,14 @@ pub fn told(r: Refusal) -> Named
         Refusal::TableTooWide => Named(12, 0, [0; 2]),
         Refusal::ClosedEntry(t) => Named(13, 1, [t as u64, 0]),
         Refusal::Harm { pattern, output } => Named(14, 2, [pattern as u64, output as u64]),
+        Refusal::ListsUnequal => Named(15, 0, [0; 2]),
+        Refusal::GateRepeated => Named(16, 0, [0; 2]),
     }
 }
 
 // The refusal's number.
 pub fn number_of(r: Refusal) -> u64
-    ensures { λ k. ⌜ (k ≡ numberOf r) × (k ≤ 14) ⌝ }
+    ensures { λ k. ⌜ (k ≡ numberOf r) × (k ≤ 16) ⌝ }
 {
     let t = told(r);
     t.0

@@ -1,15 +1,14 @@
 -- What the words of two networks tell of their outputs. Assumes nothing.
 use mathlib.Core.Path.{_≡_, refl, sym, ap, ap₂, _∙_}
 use mathlib.Core.Bool.{Bool, true, false, not, _&&_, _||_, Bool·beq}
-use mathlib.Core.List.{List, [], _∷_}
+use mathlib.Core.List.{List}
 use Prim.Native.Nat.{ℕ, _+_, _-_, _*_, _/_, _%_, _^_, _<_}
 use native.Mathlib.Numerals.{add-one}
-use native.Mathlib.Decide.{ℕ-discrete}
 use native.Mathlib.Omega.{arith}
 use lib.Dec.{ltb}
 use lib.Bits.{bitAnd, bitOr}
-use lib.ListN.{length, getD, set, length-set}
-use lib.Seq.{ext-getD, getD-take, getD-set-same, getD-set-other}
+use lib.ListN.{getD}
+use lib.Seq.{getD-take}
 use Rattle.bits.specs.Range.{any, upFrom}
 use Rattle.bits.specs.Bit.{bit, column, differs}
 use Rattle.bits.specs.Cut.{Framed}
@@ -20,15 +19,13 @@ use Rattle.bits.proofs.Ranges.{and-assoc, any-i, length-places, places-at, colu
 use Rattle.network.specs.declared.Session.{Session}
 use Rattle.network.specs.declared.Answer.the-variants.{Done}
 use Rattle.network.specs.Bounds.{mostSignals}
-use Rattle.network.specs.Net.{Gate, Net, withTable, withGates, noGate, values, output, excluded, excludedFor, patternOrder, replaced}
-use Rattle.network.specs.Flat.{gateAt, gatesOf, netOf, netWith, loadedNet, currentNet}
+use Rattle.network.specs.Net.{Net, values, output, excluded, excludedFor, patternOrder}
+use Rattle.network.specs.Flat.{netOf, netWith, loadedNet}
 use Rattle.network.specs.Valid.{NetOk, OutputsOk}
 use Rattle.network.specs.State.{stateFault}
 use Rattle.network.specs.DontCares.{harms}
 use Rattle.network.specs.Calls.{firstHarm, harmTest}
-use Rattle.network.proofs.FlatGates.{length-gates}
 use Rattle.network.proofs.Valid.{net-ok, outputs-ok}
-use Rattle.network.proofs.Earlier.{gates-at}
 use Rattle.simulate.specs.Simulated.{Simulated}
 use Rattle.verdict.specs.Changed.{changedWord, changedAt, wordHarm}
 use Rattle.verdict.proofs.Turns.{search-ext, search-none, below, left, words-start}
@@ -118,43 +115,13 @@ module _ (ks fs ls ts : List ℕ) (n m : ℕ) (ex outs : List ℕ) (p : ℕ) whe
       words-start (harms L M) p (framed .cut)
       ∙ ap (λ (q : ℕ). firstHarm (harms L M) q (upFrom 0 (2 ^ n))) (sym (length-places p (λ i. getD outs i 0)))
 
--- ## A table put in place
-
-module _ (ks fs ts : List ℕ) (m g t : ℕ) (h : g < m) (l : g < length ts) where
-  gates-set : gatesOf ks fs (set ts g t) m ≡ set (gatesOf ks fs ts m) g (withTable (gateAt ks fs ts g) t)
-  unfolding gateAt
-  gates-set =
-      ext-getD noGate (gatesOf ks fs (set ts g t) m) (set (gatesOf ks fs ts m) g (withTable (gateAt ks fs ts g) t))
-      (length-gates ks fs (set ts g t) m ∙ sym (length-set (gatesOf ks fs ts m) g (withTable (gateAt ks fs ts g) t) ∙ length-gates ks fs ts m))
-      (λ i b. at i (omega (arith, length-gates ks fs (set ts g t) m)) (ℕ-discrete i g))
-    where
-      at : (i : ℕ) → i < m → Dec (i ≡ g) → getD (gatesOf ks fs (set ts g t) m) i noGate ≡ getD (set (gatesOf ks fs ts m) g (withTable (gateAt ks fs ts g) t)) i noGate
-      at i b (yes e) =
-          rw e
-          (gates-at ks fs (set ts g t) m g h ∙ ap (withTable (gateAt ks fs ts g)) (getD-set-same ts g t 0 l)
-          ∙ sym (getD-set-same (gatesOf ks fs ts m) g (withTable (gateAt ks fs ts g) t) noGate (omega (arith, length-gates ks fs ts m))))
-      at i b (no d) =
-          gates-at ks fs (set ts g t) m i b ∙ ap (withTable (gateAt ks fs ts i)) (getD-set-other ts g i t 0 d)
-          ∙ sym (getD-set-other (gatesOf ks fs ts m) g i (withTable (gateAt ks fs ts g) t) noGate d ∙ gates-at ks fs ts m i b)
-
--- the current network with gate g replaced is the one of the tables with a new one stored
-pub replaced-net : (s : Session) (g t : ℕ) → g < s .m → g < length (s .current)
-    → replaced (currentNet s) (record { signal = s .n + g; table = t } ∷ []) ≡ netWith s (set (s .current) g t)
-unfolding currentNet netOf
-replaced-net s g t h l =
-    let G = gatesOf (s .arity) (s .fanins) (s .current) (s .m) in
-    ap (withGates (currentNet s))
-    (ap (λ (k : ℕ). set G k (withTable (getD G k noGate) t)) (back (s .n) g)
-    ∙ ap (λ (old : Gate). set G g (withTable old t)) (gates-at (s .arity) (s .fanins) (s .current) (s .m) g h)
-    ∙ sym (gates-set (s .arity) (s .fanins) (s .current) (s .m) g t h l))
-
 -- ## A session's networks, by its counts
 
 pub session-ok : (s : Session) (n m p : ℕ) → n ≡ s .n → m ≡ s .m → p ≡ s .p → stateFault s ≡ Done → NetOk (s .arity) (s .fanins) n m × OutputsOk (s .outputs) p (n + m)
 session-ok s n m p en em ep h = rw (en, em, ep) (net-ok s h, outputs-ok s h)
 
-pub harm-session : (s : Session) (g t n m p : ℕ) → n ≡ s .n → m ≡ s .m → p ≡ s .p → g < s .m → g < length (s .current)
-    → harmTest (netOf (s .arity) (s .fanins) (s .loaded) n m (s .excluded) (s .outputs) p) (netOf (s .arity) (s .fanins) (set (s .current) g t) n m (s .excluded) (s .outputs) p)
-    ≡ harmTest (loadedNet s) (replaced (currentNet s) (record { signal = s .n + g; table = t } ∷ []))
+pub harm-session : (s : Session) (ts : List ℕ) (n m p : ℕ) → n ≡ s .n → m ≡ s .m → p ≡ s .p
+    → harmTest (netOf (s .arity) (s .fanins) (s .loaded) n m (s .excluded) (s .outputs) p) (netOf (s .arity) (s .fanins) ts n m (s .excluded) (s .outputs) p)
+    ≡ harmTest (loadedNet s) (netWith s ts)
 unfolding loadedNet
-harm-session s g t n m p en em ep h l = rw (en, em, ep) (ap (harmTest (loadedNet s)) (sym (replaced-net s g t h l)))
+harm-session s ts n m p en em ep = rw (en, em, ep)

@@ -1,6 +1,5 @@
-// The calls: the search for harm. The first pattern, and there the lowest output, at which a lone replacement changes the loaded outputs.
+// The calls: the search for harm. What other tables do: the first pattern, and there the lowest output, at which the loaded outputs change.
 ghost use mathlib.Core.Path.{_≡_};
-ghost use mathlib.Core.List.{[], _∷_};
 ghost use Prim.Native.Nat.{ℕ, _+_, _*_, _<_, _≤_};
 ghost use lib.ListN.{getD};
 ghost use Rattle.bits.specs.Bounds.{rowWords};
@@ -8,8 +7,7 @@ ghost use Rattle.bits.specs.Range.{any};
 ghost use Rattle.bits.specs.Bit.{bit};
 ghost use Rattle.network.specs.declared.Answer.the-variants.{Done};
 ghost use Rattle.network.specs.Bounds.{mostOutputs, mostSignals};
-ghost use Rattle.network.specs.Net.{replaced};
-ghost use Rattle.network.specs.Flat.{netOf, loadedNet, currentNet};
+ghost use Rattle.network.specs.Flat.{netOf, netWith, loadedNet};
 ghost use Rattle.network.specs.Valid.{NetOk, OutputsOk};
 ghost use Rattle.network.specs.State.{stateFault};
 ghost use Rattle.network.specs.Calls.{harmTest};
@@ -173,11 +171,10 @@ fn network_harm(
     Answer::Done
 }
 
-// The harm that the current network does once gate g has the new table.
-pub fn harm(s: Session, g: usize, table: u64) -> Answer
+// The harm that the session's network does with these tables.
+pub fn harm(s: Session, tables: [u64; MOST_GATES]) -> Answer
     requires { ⌜ stateFault s ≡ Done ⌝ }
-    requires { ⌜ g < s .m ⌝ }
-    ensures { λ r. ⌜ r ≡ harmTest (loadedNet s) (replaced (currentNet s) (record { signal = s .n + g; table = table } ∷ [])) ⌝ }
+    ensures { λ r. ⌜ r ≡ harmTest (loadedNet s) (netWith s tables) ⌝ }
 {
     let n = network::place(s.n);
     let m = network::place(s.m);
@@ -187,7 +184,5 @@ pub fn harm(s: Session, g: usize, table: u64) -> Answer
     let fanins = s.fanins;
     let loaded = s.loaded;
     let outs = s.outputs;
-    let mut tables = s.current;
-    tables[g] = table;
     network_harm(n, m, p, &excluded, &arity, &fanins, &loaded, &tables, &outs)
 }

@@ -2,7 +2,6 @@
 use mathlib.Core.Path.{refl, sym, _∙_}
 use mathlib.Core.List.{[]}
 use borrow.Author.Needs.{needs}
-use Rattle.network.specs.Net.{Replacement}
 use Rattle.network.proofs.Valid.{state-e}
 use Rattle.boundary.specs.Boundary.{verdictWork, verdictCall}
 use Rattle.boundary.proofs.Names.{named-room}
@@ -27,9 +26,8 @@ returns : tie.Need-returns
 unfolding verdictCall
 returns c =
     let t = c .before .before .before .before in
-    let a = t .before .before .before .before .args in
-    let r : Replacement = record { signal = a .gate; table = a .table } in
-    down (verdictWork r) (a .session .now) [] (a .out .now) (t .before .unpack .ensures) (t .room .ensures) (c .before .before .a .given .1) (c .number-of .ensures .0)
+    let a = t .before .before .before .before .before .before .args in
+    down (verdictWork (a .gates .now) (a .tables .now)) (a .session .now) [] (a .out .now) (t .before .unpack .ensures) (t .room .ensures) (c .before .before .a .given .1) (c .number-of .ensures .0)
 
 enum-told : tie.Need-enum-told
 enum-told c = search needs
@@ -37,9 +35,8 @@ enum-told c = search needs
 verdict-requires : tie.Need-verdict-requires
 verdict-requires c κs =
     let t = c .before .before in
-    let a = t .before .before .before .before .args in
-    let r : Replacement = record { signal = a .gate; table = a .table } in
-    let x = opens (verdictWork r) (a .session .now) [] (a .out .now) (t .before .unpack .ensures) (t .room .ensures) (c .enum-told .given .1) in
+    let a = t .before .before .before .before .before .before .args in
+    let x = opens (verdictWork (a .gates .now) (a .tables .now)) (a .session .now) [] (a .out .now) (t .before .unpack .ensures) (t .room .ensures) (c .enum-told .given .1) in
     state-e (t .before .unpack .result .session) (x .valid)
 
 enum-known-v : tie.Need-enum-known-v
@@ -50,10 +47,9 @@ tell-refusal-requires c κs =
     let h = c .before .before in
     let k = h .before .before in
     let t = k .before .before .before in
-    let a = t .before .before .before .before .args in
-    let r : Replacement = record { signal = a .gate; table = a .table } in
-    let x = opens (verdictWork r) (a .session .now) [] (a .out .now) (t .before .unpack .ensures) (t .room .ensures) (k .before .enum-told .given .1) in
-    named-room (a .out .now) (sym (k .verdict .ensures) ∙ h .v .given .1) (names-verdict (t .before .unpack .result .session) r) (x .room)
+    let a = t .before .before .before .before .before .before .args in
+    let x = opens (verdictWork (a .gates .now) (a .tables .now)) (a .session .now) [] (a .out .now) (t .before .unpack .ensures) (t .room .ensures) (k .before .enum-told .given .1) in
+    named-room (a .out .now) (sym (k .verdict .ensures) ∙ h .v .given .1) (names-verdict (t .before .unpack .result .session) (a .gates .now) (a .tables .now)) (x .room)
 
 same-length : tie.Need-same-length
 same-length c = search needs
@@ -65,9 +61,8 @@ returns-2 c =
     let h = g .before .before .before in
     let k = h .before .before in
     let t = k .before .before .before in
-    let a = t .before .before .before .before .args in
-    let r : Replacement = record { signal = a .gate; table = a .table } in
-    let x = opens (verdictWork r) (a .session .now) [] (a .out .now) (t .before .unpack .ensures) (t .room .ensures) (k .before .enum-told .given .1) in
+    let a = t .before .before .before .before .before .before .args in
+    let x = opens (verdictWork (a .gates .now) (a .tables .now)) (a .session .now) [] (a .out .now) (t .before .unpack .ensures) (t .room .ensures) (k .before .enum-told .given .1) in
     x .leaves (judged-refused [] [] (a .out .now) (k .verdict .ensures) (h .v .given .1)
     (g .tell-refusal .ensures .0) (g .tell-refusal .ensures .1))
 
@@ -79,9 +74,8 @@ unfolding verdictCall
 returns-3 c =
     let k = c .before .before in
     let t = k .before .before .before in
-    let a = t .before .before .before .before .args in
-    let r : Replacement = record { signal = a .gate; table = a .table } in
-    let x = opens (verdictWork r) (a .session .now) [] (a .out .now) (t .before .unpack .ensures) (t .room .ensures) (k .before .enum-told .given .1) in
+    let a = t .before .before .before .before .before .before .args in
+    let x = opens (verdictWork (a .gates .now) (a .tables .now)) (a .session .now) [] (a .out .now) (t .before .unpack .ensures) (t .room .ensures) (k .before .enum-told .given .1) in
     x .leaves (judged-done [] [] (a .out .now) (k .verdict .ensures) (c .enum-told2 .given .1) refl)
 
 pub verdict-spec : {M : Type 1} → statement M

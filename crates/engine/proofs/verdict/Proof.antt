@@ -1,10 +1,10 @@
 -- `engine::verdict` meets its contract. Assumes nothing.
 use mathlib.Core.Path.{sym, _∙_}
 use mathlib.Core.List.{[], _∷_}
-use Rattle.network.specs.Net.{Replacement, replaced}
+use Rattle.network.specs.Net.{replaced}
 use Rattle.network.specs.Flat.{loadedNet, currentNet}
 use Rattle.network.specs.State.{stateTest}
-use Rattle.network.specs.Calls.{gateTest, tableTest, harmTest, verdictOf}
+use Rattle.network.specs.Calls.{harmTest, lengthsTest, pairs, pairsTest, verdictOf}
 use Rattle.network.proofs.Valid.{state-e}
 use Rattle.network.proofs.TestLaws.{alone, stopped}
 use borrow.Author.Needs.{needs}
@@ -21,9 +21,10 @@ returns : tie.Need-returns
 unfolding verdictOf
 returns c =
     let t = c .before .before in
-    let s = t .before .args .s in
-    let r : Replacement = record { signal = t .before .args .gate; table = t .before .args .table } in
-    stopped (stateTest s ∷ []) (gateTest (loadedNet s) (r .signal) ∷ tableTest (loadedNet s) r ∷ harmTest (loadedNet s) (replaced (currentNet s) (r ∷ [])) ∷ []) (t .state-test .ensures ∙ alone (stateTest s)) (c .enum-told .given .1)
+    let a = t .before .before .before .args in
+    let s = a .s in
+    let rs = pairs (a .gates .now) (a .tables .now) in
+    stopped (stateTest s ∷ []) (lengthsTest (a .gates .now) (a .tables .now) ∷ pairsTest (loadedNet s) [] rs ∷ harmTest (loadedNet s) (replaced (currentNet s) rs) ∷ []) (t .state-test .ensures ∙ alone (stateTest s)) (c .enum-told .given .1)
 
 enum-told-2 : tie.Need-enum-told-2
 enum-told-2 c = search needs
@@ -31,7 +32,7 @@ enum-told-2 c = search needs
 verdict-requires : tie.Need-verdict-requires
 verdict-requires c κs =
     let t = c .before .before in
-    state-e (t .before .args .s) (sym (t .state-test .ensures) ∙ c .enum-told2 .given .1)
+    state-e (t .before .before .before .args .s) (sym (t .state-test .ensures) ∙ c .enum-told2 .given .1)
 
 returns-2 : tie.Need-returns-2
 returns-2 c = c .verdict .ensures

@@ -41,6 +41,12 @@ enum-told-11 c = search needs
 enum-told-12 : tie.Need-enum-told-12
 enum-told-12 c = search needs
 
+enum-told-13 : tie.Need-enum-told-13
+enum-told-13 c = search needs
+
+enum-told-14 : tie.Need-enum-told-14
+enum-told-14 c = search needs
+
 enum-known-r : tie.Need-enum-known-r
 enum-known-r c = search needs
 
@@ -89,6 +95,12 @@ returns-13 c = rw (c .before .r .given .1) (record { number = refl; values = ref
 returns-14 : tie.Need-returns-14
 returns-14 c = rw (c .before .r2 .given .1) (record { number = refl; values = refl; small = omega arith; few = omega arith })
 
+returns-15 : tie.Need-returns-15
+returns-15 c = search needs
+
+returns-16 : tie.Need-returns-16
+returns-16 c = search needs
+
 pub told-spec : {M : Type 1} → statement M
 told-spec =
     tie.close
@@ -107,6 +119,8 @@ told-spec =
     enum-told-12
     enum-known-r
     enum-known-r-2
+    enum-told-13
+    enum-told-14
     returns
     returns-2
     returns-3
@@ -120,4 +134,6 @@ told-spec =
     returns-11
     returns-12
     returns-13
-    returns-14)
+    returns-14
+    returns-15
+    returns-16)
