@@ -18,6 +18,12 @@ typedef struct {
     uint64_t odc[GATES][WORDS], hidden[GATES][WORDS];
 } Sets;
 
+/* gates, by signal number, each with its table */
+typedef struct {
+    size_t gates_len, tables_len;
+    uint64_t gates[GATES], tables[GATES];
+} Handful;
+
 typedef struct {
     int number, first, second; /* 0, or a refusal with the values that it names */
 } Answer;
@@ -33,12 +39,12 @@ extern const Baseline PLAIN, TUNED;
 /* 0, or one of the refusals 1 to 8 */
 int parse(const uint8_t *file, size_t size, Network *net);
 
-/* 0 or 10; 0, 10, 11 or 12 */
+/* 0 or 10; 0, 10, 15, or 11, 16 or 12 of the first pair at fault */
 int state_test(const Network *loaded, const Network *current);
-int question_test(const Network *loaded, const Network *current, int gate, uint64_t table);
+int handful_test(const Network *loaded, const Network *current, const Handful *handful);
 
 /* sets a gate's table in `current`, with the tests 10 to 13 */
-Answer exchange(const Network *loaded, Network *current, const Sets *sets, int gate, uint64_t table);
+Answer exchange(const Network *loaded, Network *current, const Sets *sets, uint64_t gate, uint64_t table);
 
 static inline unsigned all_entries(int k) { return (1u << (1 << k)) - 1; }
 static inline int word_count(int n) { return n < 6 ? 1 : 1 << (n - 6); }

@@ -1,4 +1,4 @@
-/* What both baselines share: the file, the tests of a state, the exchange. */
+/* What both baselines share: the file, the tests of a state and of a handful of gates, the exchange. */
 #include "baseline.h"
 
 static int gate_fault(const Network *net, int g) {
@@ -91,16 +91,31 @@ int state_test(const Network *loaded, const Network *current) {
     return state_fault(loaded) || state_fault(current) ? 10 : 0;
 }
 
-int question_test(const Network *loaded, const Network *current, int gate, uint64_t table) {
-    int g = gate - loaded->n;
-    if (state_test(loaded, current)) return 10;
-    if (g < 0 || loaded->m <= g) return 11;
+/* of one pair, where the places of `named` are named before it */
+static int pair_test(const Network *loaded, uint64_t named, uint64_t gate, uint64_t table) {
+    uint64_t g = gate - (uint64_t)loaded->n;
+    if ((uint64_t)loaded->m <= g) return 11;
+    if (named >> g & 1) return 16;
     return table & ~(uint64_t)all_entries(loaded->arity[g]) ? 12 : 0;
 }
 
-Answer exchange(const Network *loaded, Network *current, const Sets *sets, int gate, uint64_t table) {
-    int number = question_test(loaded, current, gate, table), g = gate - loaded->n;
+int handful_test(const Network *loaded, const Network *current, const Handful *handful) {
+    uint64_t named = 0;
+    if (state_test(loaded, current)) return 10;
+    if (handful->gates_len != handful->tables_len) return 15;
+    for (size_t i = 0; i < handful->gates_len; i++) {
+        int number = pair_test(loaded, named, handful->gates[i], handful->tables[i]);
+        if (number) return number;
+        named |= (uint64_t)1 << (handful->gates[i] - (uint64_t)loaded->n);
+    }
+    return 0;
+}
+
+Answer exchange(const Network *loaded, Network *current, const Sets *sets, uint64_t gate, uint64_t table) {
+    int number = state_test(loaded, current);
+    if (!number) number = pair_test(loaded, 0, gate, table);
     if (number) return (Answer){number, 0, 0};
+    uint64_t g = gate - (uint64_t)loaded->n;
     uint64_t altered = (loaded->tables[g] ^ table) & ~sets->open[g];
     if (altered) return (Answer){13, __builtin_ctzll(altered), 0};
     current->tables[g] = (unsigned)table;

@@ -11,15 +11,14 @@ enum { CASES = 21, BATCHES = 5 };
 #define FILE_SIZE TUSQIRMA_MOST_FILE
 #define SESSION TUSQIRMA_SESSION_WORDS
 
-/* a network, a question about one of its gates, and room for the answers */
+/* a network, a question about some of its gates, and room for the answers */
 typedef struct {
     uint8_t file[FILE_SIZE];
     size_t size;
     Network loaded, current, replaced;
     Sets sets;
     uint64_t session[SESSION], out[2 * GATES * WORDS];
-    int gate;
-    uint64_t table;
+    Handful asked;
     Answer answer;
 } Case;
 
@@ -113,58 +112,84 @@ static void base_sets(const Baseline *b, Case *c) {
     b->compatible(&c->loaded, &c->sets);
 }
 static void our_verdict(Case *c) {
-    uint64_t n = tusqirma_verdict(c->session, SESSION, (size_t)c->gate, c->table, c->out, 2);
+    const Handful *h = &c->asked;
+    uint64_t n = tusqirma_verdict(c->session, SESSION, h->gates, h->gates_len, h->tables, h->tables_len, c->out, 2);
     c->answer = n ? (Answer){(int)n, (int)c->out[0], (int)c->out[1]} : (Answer){0, 0, 0};
 }
 static void base_verdict(const Baseline *b, Case *c) {
-    if (question_test(&c->loaded, &c->current, c->gate, c->table)) die("question");
+    const Handful *h = &c->asked;
+    if (handful_test(&c->loaded, &c->current, h)) die("question");
     c->replaced = c->current;
-    c->replaced.tables[c->gate - c->loaded.n] = (unsigned)c->table;
+    for (size_t i = 0; i < h->gates_len; i++) c->replaced.tables[h->gates[i] - (uint64_t)c->loaded.n] = (unsigned)h->tables[i];
     c->answer = b->verdict(&c->loaded, &c->replaced);
 }
 static void our_exchange(Case *c) {
-    uint64_t n = tusqirma_exchange(c->session, SESSION, (size_t)c->gate, c->table, c->out, 1);
+    uint64_t n = tusqirma_exchange(c->session, SESSION, (size_t)c->asked.gates[0], c->asked.tables[0], c->out, 1);
     c->answer = n ? (Answer){(int)n, (int)c->out[0], 0} : (Answer){0, 0, 0};
 }
 static void base_exchange(const Baseline *b, Case *c) {
     (void)b;
-    c->answer = exchange(&c->loaded, &c->current, &c->sets, c->gate, c->table);
+    c->answer = exchange(&c->loaded, &c->current, &c->sets, c->asked.gates[0], c->asked.tables[0]);
 }
 
-/* ## Questions: a gate and a table that alters one entry of a kind, where the network has one */
+/* ## Questions: gates and tables that alter entries of a kind, where the network has some */
 
-static int ask(Case *c, const unsigned *entries, int wanted) {
+static void put_pair(Case *c, int g, unsigned altered) {
+    Handful *h = &c->asked;
+    h->gates[h->gates_len++] = (uint64_t)(c->loaded.n + g);
+    h->tables[h->tables_len++] = c->loaded.tables[g] ^ altered;
+}
+
+/* one entry of one gate */
+static void ask(Case *c, const unsigned *entries, int wanted) {
     for (int g = 0; g < c->loaded.m; g++)
         for (int t = 0; t < 1 << c->loaded.arity[g]; t++)
             if ((int)(entries[g] >> t & 1) == wanted) {
-                c->gate = c->loaded.n + g;
-                c->table = c->loaded.tables[g] ^ 1u << t;
-                if (below(8) == 0) return 1;
+                c->asked.gates_len = c->asked.tables_len = 0;
+                put_pair(c, g, 1u << t);
+                if (below(8) == 0) return;
             }
-    return c->gate != 0;
 }
-static int any(Case *c) { return c->size != 0; }
-static int harmless(Case *c) { return ask(c, c->sets.full, 1); }
-static int harmful(Case *c) { return ask(c, c->sets.full, 0); }
-static int allowed(Case *c) { return ask(c, c->sets.open, 1); }
-static int closed(Case *c) { return ask(c, c->sets.open, 0); }
+static void any(Case *c) { (void)c; }
+static void harmless(Case *c) { ask(c, c->sets.full, 1); }
+static void harmful(Case *c) { ask(c, c->sets.full, 0); }
+static void allowed(Case *c) { ask(c, c->sets.open, 1); }
+static void closed(Case *c) { ask(c, c->sets.open, 0); }
+
+/* random open entries of so many gates, those that have some first */
+static void ask_open(Case *c, int count) {
+    for (int has = 1; has >= 0; has--)
+        for (int g = 0; g < c->loaded.m && count; g++)
+            if ((c->sets.open[g] != 0) == has) put_pair(c, g, below(65536) & c->sets.open[g]), count--;
+}
+static void eight_open(Case *c) { ask_open(c, 8); }
+static void all_open(Case *c) { ask_open(c, c->loaded.m); }
+
+/* one random entry of each gate */
+static void all_altered(Case *c) {
+    for (int g = 0; g < c->loaded.m; g++) put_pair(c, g, 1u << below(1u << c->loaded.arity[g]));
+}
 
 typedef struct {
     const char *name;
-    int (*question)(Case *);
+    int number; /* what the call answers */
+    void (*question)(Case *);
     void (*ours)(Case *);
     void (*base)(const Baseline *, Case *);
 } Task;
 
 static const Task TASKS[] = {
-    {"listing: CDC, full, open, counts of a file", any, our_listing, base_listing},
-    {"load: a session with its open tables", any, our_load, base_load},
-    {"all tables: SDC, CDC, full, open", any, our_tables, base_tables},
-    {"pattern sets: words of ODC and compatible sets", any, our_sets, base_sets},
-    {"verdict, harmless", harmless, our_verdict, base_verdict},
-    {"verdict, harmful", harmful, our_verdict, base_verdict},
-    {"exchange, accepted", allowed, our_exchange, base_exchange},
-    {"exchange, refused", closed, our_exchange, base_exchange},
+    {"listing: CDC, full, open, counts of a file", 0, any, our_listing, base_listing},
+    {"load: a session with its open tables", 0, any, our_load, base_load},
+    {"all tables: SDC, CDC, full, open", 0, any, our_tables, base_tables},
+    {"pattern sets: words of ODC and compatible sets", 0, any, our_sets, base_sets},
+    {"verdict, harmless", 0, harmless, our_verdict, base_verdict},
+    {"verdict, harmful", 14, harmful, our_verdict, base_verdict},
+    {"verdict on 8 gates, harmless", 0, eight_open, our_verdict, base_verdict},
+    {"verdict on all gates, harmless", 0, all_open, our_verdict, base_verdict},
+    {"verdict on all gates, harmful", 14, all_altered, our_verdict, base_verdict},
+    {"exchange, accepted", 0, allowed, our_exchange, base_exchange},
+    {"exchange, refused", 13, closed, our_exchange, base_exchange},
 };
 
 /* ## Every result is compared first */
@@ -193,6 +218,7 @@ static void compare_sets(Case *c) {
 static void compare_answers(Case *c, const Task *task) {
     task->ours(c);
     Answer own = c->answer;
+    same(own.number == task->number, task->name);
     task->base(&PLAIN, c);
     same(!memcmp(&own, &c->answer, sizeof own), task->name);
     task->base(&TUNED, c);
@@ -206,9 +232,10 @@ static int prepare(Case *c, const Task *task) {
     compare_sets(c);
     base_load(&TUNED, c), base_tables(&TUNED, c);
     compare_sets(c);
-    c->gate = 0;
-    if (task->question(c) && c->gate) compare_answers(c, task);
-    return task->question == any || c->gate;
+    c->asked.gates_len = c->asked.tables_len = 0;
+    task->question(c);
+    if (c->asked.gates_len) compare_answers(c, task);
+    return task->question == any || c->asked.gates_len;
 }
 
 /* ## Time */

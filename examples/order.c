@@ -4,10 +4,10 @@
 
 static uint64_t session[TUSQIRMA_SESSION_WORDS];
 
-static void verdict(size_t gate, uint64_t table) {
+static void verdict(const char *asked, const uint64_t *gates, const uint64_t *tables, size_t count) {
     uint64_t out[2];
-    uint64_t number = tusqirma_verdict(session, TUSQIRMA_SESSION_WORDS, gate, table, out, 2);
-    printf("verdict, gate %zu to %llu: ", gate, (unsigned long long)table);
+    uint64_t number = tusqirma_verdict(session, TUSQIRMA_SESSION_WORDS, gates, count, tables, count, out, 2);
+    printf("verdict, %s: ", asked);
     if (number == TUSQIRMA_HARM)
         printf("harm at pattern %llu, output %llu\n", (unsigned long long)out[0], (unsigned long long)out[1]);
     else if (number) printf("refused %llu\n", (unsigned long long)number);
@@ -31,10 +31,12 @@ int main(void) {
         printf("load: refused %llu\n", (unsigned long long)number);
         return 1;
     }
-    verdict(14, 0);
-    verdict(22, 0);
+    static const uint64_t gates[] = {14, 22}, tables[] = {0, 0};
+    verdict("gate 14 to 0", gates, tables, 1);
+    verdict("gate 22 to 0", gates + 1, tables + 1, 1);
+    verdict("gates 14 and 22 to 0", gates, tables, 2);
     exchange(14, 0);
-    verdict(22, 0);
+    verdict("gate 22 to 0", gates + 1, tables + 1, 1);
     exchange(22, 0);
     return 0;
 }

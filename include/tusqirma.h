@@ -1,10 +1,10 @@
 /*
- * Tusqirma: don't-care tables of gate networks, verdicts on a lone replacement, and sessions of exchanges.
+ * Tusqirma: don't-care tables of gate networks, verdicts on any handful of gates, and sessions of exchanges.
  *
  * The calls of the static library libcapi.a. Each returns 0 where it did what was asked, or the number of a refusal.
  *
  * A network has n inputs (1 to 10), m gates (1 to 40) and p outputs (1 to 8); a gate has k fan-ins (1 to 4). Signals 0 to
- * n-1 are the inputs and n to n+m-1 the gates, in file order; a call's `gate` is such a signal number. Pattern x gives
+ * n-1 are the inputs and n to n+m-1 the gates, in file order; a call names a gate by its signal number. Pattern x gives
  * input i the value of bit i of x. Entry t of a table stands at bit t and answers the fan-in values whose sum, fan-in r
  * times 2^r, is t. A set of patterns has pattern x at bit x % 64 of its word x / 64.
  *
@@ -27,12 +27,13 @@
  *     every pattern not excluded stays that of the loaded network, and each gate has the table of its last accepted
  *     exchange, or the loaded one. No call refuses such a session with 10. Neighbours at different gates may be swapped.
  *   - An exchange at a gate, with a table that fits, is refused exactly when it alters a closed entry of the loaded
- *     table; one that is accepted is harmless, so a verdict on it would have said so.
- *   - A verdict finds harm exactly when some pattern that is not excluded changes an output.
+ *     table. What exchanges would accept, each for itself, is harmless on one verdict, and so is every part of it.
+ *   - A verdict finds harm exactly when some pattern that is not excluded changes an output with all of its gates replaced.
  *   - A network written and loaded again is the same network.
  *
  * Order of the tests. tusqirma_load: 1 to 8, then 9. The calls on a session: 9 for a session of fewer than 427 words, 10,
- * 9 for any other buffer, then 11, 12, and 13 or 14. tusqirma_listing: 9 only.
+ * 9 for any other buffer, then 11, 12 and 13; a verdict 15, then of each pair in order 11, 16 and 12, then 14.
+ * tusqirma_listing: 9 only.
  */
 #ifndef TUSQIRMA_H
 #define TUSQIRMA_H
@@ -64,7 +65,9 @@ enum tusqirma_refusal {
     TUSQIRMA_NOT_A_GATE = 11,       /* no gate has that signal number */
     TUSQIRMA_TABLE_TOO_WIDE = 12,   /* the table has a bit at or past 2^k */
     TUSQIRMA_CLOSED_ENTRY = 13,     /* exchange: alters a closed entry of the loaded table; out[0]: the smallest */
-    TUSQIRMA_HARM = 14              /* verdict: an output changes; out[0]: the smallest pattern, out[1]: there, the lowest output */
+    TUSQIRMA_HARM = 14,             /* verdict: an output changes; out[0]: the smallest pattern, out[1]: there, the lowest output */
+    TUSQIRMA_LISTS_UNEQUAL = 15,    /* verdict: lists of unequal length */
+    TUSQIRMA_GATE_REPEATED = 16     /* verdict: a gate named a second time */
 };
 
 /*
@@ -137,12 +140,16 @@ uint64_t tusqirma_pattern_sets(const uint64_t *session, size_t session_len, uint
 uint64_t tusqirma_hidden(const uint64_t *session, size_t session_len, uint64_t *out, size_t out_len);
 
 /*
- * Judges the current network with the table of one gate replaced, against the loaded network's outputs. Returns 0 where
- * no pattern that is not excluded changes an output; otherwise 14, with the smallest such pattern in out[0] and its
- * lowest changed output (0 to p-1) in out[1]. `out` has 2 words, and keeps them in every other outcome. The session
- * stays. Refusals 9, 10, 11, 12, 14.
+ * Judges the current network with the tables of some gates replaced, all of them at once, against the loaded network's
+ * outputs. Gate gates[i] gets table tables[i]; the gates may stand in any order, none twice. Returns 0 where no pattern
+ * that is not excluded changes an output; otherwise 14, with the smallest such pattern in out[0] and its lowest changed
+ * output (0 to p-1) in out[1]. `out` has 2 words, and keeps them in every other outcome. The session stays. NULL with
+ * length 0 serves for an empty list, on which the current network is judged as it stands.
+ * Refusals 9, 10, 15 where the lists are of unequal length, then of the first pair at fault 11, 16 where an earlier pair
+ * names its gate, or 12; then 14.
  */
-uint64_t tusqirma_verdict(const uint64_t *session, size_t session_len, size_t gate, uint64_t table, uint64_t *out, size_t out_len);
+uint64_t tusqirma_verdict(const uint64_t *session, size_t session_len, const uint64_t *gates, size_t gates_len,
+                          const uint64_t *tables, size_t tables_len, uint64_t *out, size_t out_len);
 
 /*
  * Sets the current table of one gate. Refused with 13 where the table differs from the loaded one at an entry that is

@@ -26,10 +26,13 @@ static void exchange(const char *what, size_t gate, uint64_t table)
     print(what, number, entry, number == TUSQIRMA_CLOSED_ENTRY ? 1 : 0);
 }
 
-static void verdict(const char *what, size_t gate, uint64_t table)
+/* Of gates 1 and 2, or of one of them, to table 0. */
+static const uint64_t gates[] = {1, 2}, zeros[] = {0, 0};
+
+static void verdict(const char *what, size_t from, size_t count)
 {
     uint64_t harm[2] = {0, 0};
-    uint64_t number = tusqirma_verdict(session, TUSQIRMA_SESSION_WORDS, gate, table, harm, 2);
+    uint64_t number = tusqirma_verdict(session, TUSQIRMA_SESSION_WORDS, gates + from, count, zeros, count, harm, 2);
     print(what, number, harm, number == TUSQIRMA_HARM ? 2 : 0);
 }
 
@@ -79,8 +82,11 @@ static void nulls(void)
     print("pattern sets, null words", tusqirma_pattern_sets(session, WORDS, NULL, 0), out, 0);
     print("hidden, null session", tusqirma_hidden(NULL, 0, out, 3), out, 0);
     print("hidden, null out", tusqirma_hidden(session, WORDS, NULL, 0), out, 0);
-    print("verdict, null session", tusqirma_verdict(NULL, 0, 2, 0, out, 2), out, 0);
-    print("verdict, null out", tusqirma_verdict(session, WORDS, 2, 0, NULL, 0), out, 0);
+    print("verdict, null session", tusqirma_verdict(NULL, 0, gates, 2, zeros, 2, out, 2), out, 0);
+    print("verdict, null out", tusqirma_verdict(session, WORDS, gates, 2, zeros, 2, NULL, 0), out, 0);
+    print("verdict, null gates", tusqirma_verdict(session, WORDS, NULL, 0, zeros, 2, out, 2), out, 0);
+    print("verdict, null tables", tusqirma_verdict(session, WORDS, gates, 2, NULL, 0, out, 2), out, 0);
+    print("verdict, null lists", tusqirma_verdict(session, WORDS, NULL, 0, NULL, 0, out, 2), out, 0);
     print("exchange, null session", tusqirma_exchange(NULL, 0, 2, 0, out, 1), out, 0);
     print("exchange, null out", tusqirma_exchange(session, WORDS, 2, 0, NULL, 0), out, 0);
     print("write, null session", tusqirma_write(NULL, 0, bytes, sizeof bytes, out, 1), out, 0);
@@ -110,10 +116,12 @@ int main(void)
     listing(twin, sizeof twin);
     print("load", tusqirma_load(twin, sizeof twin, session, TUSQIRMA_SESSION_WORDS), session, 3);
     sets();
-    verdict("verdict, gate 2 to 0", 2, 0);
+    verdict("verdict, gate 1 to 0", 0, 1);
+    verdict("verdict, gate 2 to 0", 1, 1);
+    verdict("verdict, gates 1 and 2 to 0", 0, 2);
     exchange("exchange, gate 1 to 0", 1, 0);
     exchange("exchange, gate 2 to 0", 2, 0);
-    verdict("verdict, gate 2 to 0", 2, 0);
+    verdict("verdict, gate 2 to 0", 1, 1);
     exchange("exchange, gate 3 to C", 3, 0xC);
     exchange("exchange, gate 3 to 10", 3, 0x10);
     exchange("exchange, gate 4 to 0", 4, 0);

@@ -1,14 +1,14 @@
 //! The calls of the C boundary, and the buffers that are lent to them.
 
-/// A call, with what it takes by value.
-#[derive(Clone, Copy, Debug, PartialEq)]
+/// A call, with what it takes by value, and the lists that a verdict reads.
+#[derive(Clone, Debug, PartialEq)]
 pub enum Call {
     Load,
     Tables { gate: usize },
     AllTables,
     PatternSets,
     Hidden,
-    Verdict { gate: usize, table: u64 },
+    Verdict { gates: Vec<u64>, tables: Vec<u64> },
     Exchange { gate: usize, table: u64 },
     Write,
     Listing,
@@ -62,5 +62,5 @@ pub fn filling(length: usize) -> Vec<u64> {
 /// A way into the engine: it carries out a call on the lent buffers, and returns the number.
 pub struct Way {
     pub name: &'static str,
-    pub run: fn(Call, &mut Lent) -> u64,
+    pub run: fn(&Call, &mut Lent) -> u64,
 }

@@ -21,6 +21,14 @@ pub const PROGRAM: Way = Way {
     run: program_call,
 };
 
+/// The ways that can make a call on a session. The binding takes pairs, so it has no lists of unequal length.
+pub fn ways(call: &Call) -> &'static [Way] {
+    match call {
+        Call::Verdict { gates, tables } if gates.len() != tables.len() => &[RAW],
+        _ => &[RAW, BINDING],
+    }
+}
+
 /// A buffer between margins that no call may touch.
 struct Fenced<T>(Vec<T>);
 
@@ -51,7 +59,7 @@ const WORD: u64 = 0x5EED_FACE_5EED_FACE;
 const BYTE: u8 = 0xD7;
 
 /// The call with the buffers as they are lent.
-fn raw_call(call: Call, lent: &mut Lent) -> u64 {
+fn raw_call(call: &Call, lent: &mut Lent) -> u64 {
     let mut session = Fenced::new(&lent.session, WORD);
     let mut file = Fenced::new(&lent.file, BYTE);
     let mut bytes = Fenced::new(&lent.bytes, BYTE);
@@ -59,12 +67,15 @@ fn raw_call(call: Call, lent: &mut Lent) -> u64 {
     let (s, f, b, o) = (session.lent(), file.lent(), bytes.lent(), out.lent());
     let number = match call {
         Call::Load => raw::load(f, s),
-        Call::Tables { gate } => raw::tables(s, gate, o),
+        Call::Tables { gate } => raw::tables(s, *gate, o),
         Call::AllTables => raw::all_tables(s, o),
         Call::PatternSets => raw::pattern_sets(s, o),
         Call::Hidden => raw::hidden(s, o),
-        Call::Verdict { gate, table } => raw::verdict(s, gate, table, o),
-        Call::Exchange { gate, table } => raw::exchange(s, gate, table, o),
+        Call::Verdict { gates, tables } => {
+            let (mut g, mut t) = (Fenced::new(gates, WORD), Fenced::new(tables, WORD));
+            raw::verdict(s, g.lent(), t.lent(), o)
+        }
+        Call::Exchange { gate, table } => raw::exchange(s, *gate, *table, o),
         Call::Write => raw::write(s, b, o),
         Call::Listing => raw::listing(f, b, o),
     };
@@ -76,7 +87,7 @@ fn raw_call(call: Call, lent: &mut Lent) -> u64 {
 }
 
 /// The call by the binding, whose results are laid into the lent buffers as the C boundary would. They must have room.
-fn binding_call(call: Call, lent: &mut Lent) -> u64 {
+fn binding_call(call: &Call, lent: &mut Lent) -> u64 {
     match by_binding(call, lent) {
         Ok(()) => 0,
         Err(refusal) => {
@@ -92,7 +103,7 @@ fn binding_call(call: Call, lent: &mut Lent) -> u64 {
     }
 }
 
-fn by_binding(call: Call, lent: &mut Lent) -> Result<(), Refusal> {
+fn by_binding(call: &Call, lent: &mut Lent) -> Result<(), Refusal> {
     match call {
         Call::Load => {
             let session = Session::load(&lent.file)?;
@@ -107,12 +118,12 @@ fn by_binding(call: Call, lent: &mut Lent) -> Result<(), Refusal> {
     }
 }
 
-fn on_session(call: Call, lent: &mut Lent) -> Result<(), Refusal> {
+fn on_session(call: &Call, lent: &mut Lent) -> Result<(), Refusal> {
     let words: [u64; WORDS] = lent.session[..WORDS].try_into().expect("as many");
     let mut session = Session::from_words(words);
     let four = |t: Tables| [t.sdc, t.cdc, t.full, t.open];
     let filled: Vec<u64> = match call {
-        Call::Tables { gate } => four(session.tables(gate)?).to_vec(),
+        Call::Tables { gate } => four(session.tables(*gate)?).to_vec(),
         Call::AllTables => session.all_tables()?.into_iter().flat_map(four).collect(),
         Call::PatternSets => {
             let sets = session.pattern_sets()?;
@@ -120,8 +131,12 @@ fn on_session(call: Call, lent: &mut Lent) -> Result<(), Refusal> {
             sets.iter().flat_map(of_gate).collect()
         }
         Call::Hidden => session.hidden()?,
-        Call::Verdict { gate, table } => session.verdict(gate, table).map(|()| vec![])?,
-        Call::Exchange { gate, table } => session.exchange(gate, table).map(|()| vec![])?,
+        Call::Verdict { gates, tables } => {
+            let gates = gates.iter().map(|&gate| gate as usize);
+            let pairs: Vec<(usize, u64)> = gates.zip(tables.iter().copied()).collect();
+            session.verdict(&pairs).map(|()| vec![])?
+        }
+        Call::Exchange { gate, table } => session.exchange(*gate, *table).map(|()| vec![])?,
         _ => {
             lay_with_length(lent, &session.write()?);
             return Ok(());
@@ -146,7 +161,7 @@ pub static LISTING: OnceLock<String> = OnceLock::new();
 const FAILED: u64 = u64::MAX;
 
 /// The listing of a file by the program, which reads it from its standard input.
-fn program_call(_: Call, lent: &mut Lent) -> u64 {
+fn program_call(_: &Call, lent: &mut Lent) -> u64 {
     let mut child = Command::new(LISTING.get().expect("the first argument"))
         .stdin(Stdio::piped())
         .stdout(Stdio::piped())

@@ -14,14 +14,14 @@ pub const TWIN: [u8; 27] = [
 /// Load and listing of a file by every way.
 fn compare_file(report: &mut Report, case: &Case) -> u64 {
     let file = Lent::file(&case.file);
-    report.compare(&[RAW, BINDING, PROGRAM], Call::Listing, &file, case);
-    report.compare(&[RAW, BINDING], Call::Load, &file, case).0
+    report.compare(&[RAW, BINDING, PROGRAM], &Call::Listing, &file, case);
+    report.compare(&[RAW, BINDING], &Call::Load, &file, case).0
 }
 
 /// A file that load has to answer with this number, by 01's words and by the enumeration.
 fn stated(report: &mut Report, what: &str, file: &[u8], number: u64) {
     let case = Case::new(0, file).after(what);
-    let got = (RAW.run)(Call::Load, &mut Lent::file(file));
+    let got = (RAW.run)(&Call::Load, &mut Lent::file(file));
     let wrong = got != number;
     report.count(
         case.size(),
@@ -35,7 +35,7 @@ fn listed(report: &mut Report, what: &str, file: &[u8], text: &str) {
     stated(report, what, file, 0);
     for way in [RAW, BINDING, PROGRAM] {
         let mut lent = Lent::file(file);
-        (way.run)(Call::Listing, &mut lent);
+        (way.run)(&Call::Listing, &mut lent);
         let got = String::from_utf8_lossy(&lent.bytes[..lent.out[0] as usize]);
         let wrong = got != text;
         report.count(0, wrong.then(|| format!("{what} by {}: {got}", way.name)));

@@ -20,8 +20,8 @@ pub fn compare(report: &mut Report, seed: u64, cases: usize) {
 
 fn compare_file(report: &mut Report, case: &Case) {
     let file = Lent::file(&case.file);
-    let (_, fresh) = report.compare(&[RAW, BINDING], Call::Load, &file, case);
-    report.compare(&[RAW, BINDING, PROGRAM], Call::Listing, &file, case);
+    let (_, fresh) = report.compare(&[RAW, BINDING], &Call::Load, &file, case);
+    report.compare(&[RAW, BINDING, PROGRAM], &Call::Listing, &file, case);
     let session = Lent::session(&fresh.session);
     let state = State::read(&fresh.session).expect("fresh from a load");
     let gates = state.loaded.n..state.loaded.n + state.loaded.m();
@@ -33,7 +33,7 @@ fn compare_file(report: &mut Report, case: &Case) {
         Call::Write,
     ];
     for call in each.chain(all) {
-        report.compare(&[RAW, BINDING], call, &session, case);
+        report.compare(&[RAW, BINDING], &call, &session, case);
     }
 }
 

@@ -1,5 +1,5 @@
-//! What the binding's refusals say in words, each as an error that a refused call gave. 9 is made by hand: the binding's
-//! own buffers are long enough.
+//! What the binding's refusals say in words, each as an error that a refused call gave. 9 and 15 are made by hand: the
+//! binding's own buffers are long enough, and its list is of pairs.
 
 use crate::files::{twin_but, twin_to};
 use crate::report::Report;
@@ -26,11 +26,13 @@ pub fn compare(report: &mut Report) {
         (load(&twin_but(26, 4)), "the file has an output that is not a signal"),
         (load(&twin_to(27, &[0])), "the file has bytes after its last record"),
         (Err(Refusal::BufferTooShort), "a buffer is too short"),
-        (none.verdict(14, 0), "the session's words hold no network"),
-        (board.verdict(9, 0), "no gate has that signal number"),
-        (board.verdict(14, 16), "the table has a bit past the gate's last entry"),
+        (none.verdict(&[(14, 0)]), "the session's words hold no network"),
+        (board.verdict(&[(9, 0)]), "no gate has that signal number"),
+        (board.verdict(&[(14, 16)]), "the table has a bit past the gate's last entry"),
         (board.exchange(22, 0), "the exchange alters entry 3, which is closed"),
-        (board.verdict(22, 0), "the replacement changes output 2 at pattern 7"),
+        (board.verdict(&[(22, 0)]), "the replacement changes output 2 at pattern 7"),
+        (Err(Refusal::ListsUnequal), "there are not as many gates as tables"),
+        (board.verdict(&[(14, 0), (22, 0), (14, 0)]), "a gate is named a second time"),
     ];
     for (answer, want) in answers {
         let error = answer.err().map(Box::<dyn Error>::from);

@@ -104,6 +104,20 @@ impl Report {
         self.seen.insert(what.into());
     }
 
+    /// Notes how many gates a verdict was on, and its answer.
+    pub fn see_verdict(&mut self, call: &Call, answer: u64, m: usize) {
+        if let Call::Verdict { gates, .. } = call {
+            let size = match gates.len() {
+                0 => "no gate",
+                1 => "one gate",
+                count if count < m => "some gates",
+                count if count == m => "all gates",
+                _ => "more pairs than gates",
+            };
+            self.see(format!("{size}: {answer}"));
+        }
+    }
+
     /// Some case has to have been of this kind, so that it cannot pass unseen.
     pub fn require_seen(&mut self, what: &str) {
         self.require(what, self.seen.contains(what));
@@ -136,7 +150,7 @@ impl Report {
     }
 
     /// Compares a call's whole outcome by each way: the answer, and each word and byte lent. Gives the outcome by 01.
-    pub fn compare(&mut self, ways: &[Way], call: Call, lent: &Lent, case: &Case) -> (u64, Lent) {
+    pub fn compare(&mut self, ways: &[Way], call: &Call, lent: &Lent, case: &Case) -> (u64, Lent) {
         let (number, after) = outcome(call, lent);
         self.meet(number);
         for way in ways {
@@ -148,13 +162,13 @@ impl Report {
 }
 
 /// What 01 says of a call: the answer, and the buffers afterwards.
-pub fn outcome(call: Call, lent: &Lent) -> (u64, Lent) {
+pub fn outcome(call: &Call, lent: &Lent) -> (u64, Lent) {
     let mut after = lent.clone();
     (reference::call(call, &mut after), after)
 }
 
 /// How the outcome of a call differs from the one that is due.
-pub fn differs(way: &Way, call: Call, lent: &Lent, number: u64, after: &Lent) -> Option<String> {
+pub fn differs(way: &Way, call: &Call, lent: &Lent, number: u64, after: &Lent) -> Option<String> {
     let mut got = lent.clone();
     let answer = (way.run)(call, &mut got);
     if number == answer && *after == got {

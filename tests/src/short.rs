@@ -28,7 +28,7 @@ pub fn compare(report: &mut Report, seed: u64, cases: usize) {
         };
         short.compare();
     });
-    report.require_answers((0..=9).chain(11..=14));
+    report.require_answers((0..=9).chain(11..=16));
 }
 
 /// Verdicts and exchanges, whose answers differ most.
@@ -37,7 +37,7 @@ fn judges(call: &Call) -> bool {
 }
 
 /// The bytes and the words that a call needs, beside the session.
-fn needed(call: Call, s: &State, file: &[u8]) -> (usize, usize) {
+fn needed(call: &Call, s: &State, file: &[u8]) -> (usize, usize) {
     let (m, patterns) = (s.loaded.m(), s.loaded.patterns());
     match call {
         Call::Load => (0, 0),
@@ -68,11 +68,11 @@ impl Short<'_> {
         let more = (0..8).flat_map(|_| calls(&mut self.rng, &state));
         let more: Vec<Call> = more.filter(judges).collect();
         let session = Lent::session(&state.words());
-        list.iter().for_each(|&call| self.session(call, &state));
-        for &call in list.iter().chain(&more) {
+        list.iter().for_each(|call| self.session(call, &state));
+        for call in list.iter().chain(&more) {
             self.others(call, &session, &state);
         }
-        self.others(Call::Listing, &Lent::file(&file), &state);
+        self.others(&Call::Listing, &Lent::file(&file), &state);
         self.load(&file);
         self.load_damaged(&file);
     }
@@ -89,7 +89,7 @@ impl Short<'_> {
     }
 
     /// Compares, and holds the answer to be 9 exactly where `short` says so.
-    fn expect(&mut self, call: Call, lent: &Lent, short: bool) {
+    fn expect(&mut self, call: &Call, lent: &Lent, short: bool) {
         let (answer, after) = outcome(call, lent);
         let wrong = short != (answer == 9);
         let difference = differs(&RAW, call, lent, answer, &after)
@@ -101,7 +101,7 @@ impl Short<'_> {
     }
 
     /// `out` and `bytes`, one at a time.
-    fn others(&mut self, call: Call, lent: &Lent, s: &State) {
+    fn others(&mut self, call: &Call, lent: &Lent, s: &State) {
         let (bytes, out) = needed(call, s, &lent.file);
         let with = |bytes, out| Lent::new(&lent.session, &lent.file, bytes, out);
         let lengths = self.lengths(out).into_iter();
@@ -111,7 +111,7 @@ impl Short<'_> {
     }
 
     /// A session cut short is 9, whatever it holds and however short the others are; words behind it stay.
-    fn session(&mut self, call: Call, s: &State) {
+    fn session(&mut self, call: &Call, s: &State) {
         let words = [s.words(), filling(9)].concat();
         for length in self.lengths(WORDS) {
             let short = length < WORDS;
@@ -131,7 +131,7 @@ impl Short<'_> {
     fn load(&mut self, file: &[u8]) {
         for length in self.lengths(WORDS) {
             let lent = Lent::new(&filling(length), file, 0, 0);
-            self.expect(Call::Load, &lent, length < WORDS);
+            self.expect(&Call::Load, &lent, length < WORDS);
         }
     }
 
@@ -140,7 +140,7 @@ impl Short<'_> {
         for number in 1..=8 {
             if let Some(bad) = damage::targeted(&mut self.rng, file, number) {
                 let length = self.rng.within(0, WORDS - 1);
-                self.expect(Call::Load, &Lent::new(&filling(length), &bad, 0, 0), false);
+                self.expect(&Call::Load, &Lent::new(&filling(length), &bad, 0, 0), false);
             }
         }
     }

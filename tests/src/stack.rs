@@ -17,16 +17,28 @@ pub fn compare(report: &mut Report, seed: u64) {
         let file = random::network_of(&mut rng, 10, 40);
         let case = Case::new(i, &file);
         let state = State::fresh(load(&file).expect("a random network loads"));
-        for call in calls(&mut rng, &state) {
+        for call in calls(&mut rng, &state).iter().chain(&verdicts(&state)) {
             compare_call(report, call, &Lent::session(&state.words()), &case);
         }
         for call in [Call::Load, Call::Listing] {
-            compare_call(report, call, &Lent::file(&file), &case);
+            compare_call(report, &call, &Lent::file(&file), &case);
         }
     }
+    report.require_answers([0, 15, 16]);
 }
 
-fn compare_call(report: &mut Report, call: Call, lent: &Lent, case: &Case) {
+/// All gates at once, with their first entries altered; a table less than gates; and a gate named again.
+fn verdicts(state: &State) -> [Call; 3] {
+    let gates: Vec<u64> = (10..50).chain([10]).collect();
+    let table = |gate: &u64| state.loaded.tables[*gate as usize - 10] ^ 1;
+    let tables: Vec<u64> = gates.iter().map(table).collect();
+    [(40, 40), (40, 39), (41, 41)].map(|(g, t)| Call::Verdict {
+        gates: gates[..g].to_vec(),
+        tables: tables[..t].to_vec(),
+    })
+}
+
+fn compare_call(report: &mut Report, call: &Call, lent: &Lent, case: &Case) {
     let (number, after) = outcome(call, lent);
     let difference = thread::scope(|scope| {
         let thread = Builder::new().name(format!("{STACK} bytes for {call:?}"));

@@ -2,7 +2,7 @@
 
 use crate::alterations::{Alteration, ALTERATIONS};
 use crate::call::{Call, Lent, ROOM};
-use crate::engine::{BINDING, RAW};
+use crate::engine::{ways, RAW};
 use crate::random::{self, Random};
 use crate::reference::{load, State};
 use crate::report::{Case, Report};
@@ -21,7 +21,8 @@ pub fn compare(report: &mut Report, seed: u64, cases: usize) {
     ALTERATIONS
         .iter()
         .for_each(|how| report.require_seen(how.what));
-    report.require_answers([0, 9, 10, 11, 12, 13, 14]);
+    report.require_answers([0].into_iter().chain(9..=16));
+    report.require_seen("no gate: 14");
 }
 
 /// The calls on the case's session, altered, where it has a place for that.
@@ -34,13 +35,14 @@ fn compare_altered(report: &mut Report, mut rng: Random, how: &Alteration, case:
     report.see(how.what);
     let changed = changes(&state.words(), &words);
     let case = case.after(format!("{}: {changed}", how.what));
-    for call in calls(&mut rng, &state) {
+    for call in &calls(&mut rng, &state) {
         let room = Lent::session(&words);
         let scarce = Lent::new(&words, &[], rng.within(0, ROOM), rng.within(0, 6));
         let answers = [
-            report.compare(&[RAW, BINDING], call, &room, &case).0,
+            report.compare(ways(call), call, &room, &case).0,
             report.compare(&[RAW], call, &scarce, &case).0,
         ];
+        report.see_verdict(call, answers[0], state.loaded.m());
         let due = |answer: &u64| how.refused.is_none_or(|r| r == (*answer == 10));
         let wrong = !answers.iter().all(due);
         let text = || format!("{case}{call:?}: {answers:?}");
@@ -60,24 +62,13 @@ fn changes(before: &[u64], after: &[u64]) -> String {
 /// Every call on a session, with numbers that it may refuse too.
 pub fn calls(rng: &mut Random, state: &State) -> Vec<Call> {
     let mut user = User::new(rng, state);
-    let mut asked = || {
-        let gate = user.gate();
-        (gate, user.table(gate))
-    };
-    let ((gate, _), verdict, exchange) = (asked(), asked(), asked());
     vec![
-        Call::Tables { gate },
+        Call::Tables { gate: user.gate() },
         Call::AllTables,
         Call::PatternSets,
         Call::Hidden,
-        Call::Verdict {
-            gate: verdict.0,
-            table: verdict.1,
-        },
-        Call::Exchange {
-            gate: exchange.0,
-            table: exchange.1,
-        },
+        user.verdict(),
+        user.exchange(),
         Call::Write,
     ]
 }

@@ -1,4 +1,5 @@
-//! What a session's user asks for: gates that are none, tables that fit and that do not, open and closed entries.
+//! What a session's user asks for: gates that are none, tables that fit and that do not, open and closed entries, and handfuls
+//! of gates.
 
 use crate::call::Call;
 use crate::random::Random;
@@ -37,42 +38,124 @@ impl User<'_> {
     }
 
     pub fn call(&mut self) -> Call {
-        let gate = self.gate();
-        let table = self.table(gate);
         match self.rng.within(0, 9) {
-            0..=4 => Call::Exchange { gate, table },
-            5..=7 => Call::Verdict { gate, table },
-            8 => Call::Tables { gate },
+            0..=4 => self.exchange(),
+            5..=7 => self.verdict(),
+            8 => Call::Tables { gate: self.gate() },
             _ => Call::Write,
         }
     }
 
-    /// Mostly a gate, often the last one; else an input, the number behind the last gate, or one with the same low bits.
+    pub fn exchange(&mut self) -> Call {
+        let gate = self.gate();
+        let table = self.table(gate);
+        Call::Exchange { gate, table }
+    }
+
+    /// On one gate, or a handful; at times with pairs at fault at random places, or lists of unequal length.
+    pub fn verdict(&mut self) -> Call {
+        let mut pairs = self.handful();
+        if self.rng.chance(3) {
+            let gate = self.gate();
+            pairs = vec![(gate as u64, self.table(gate))];
+        }
+        if self.rng.chance(4) {
+            for _ in 0..self.rng.within(1, 3) {
+                let fault = self.fault(&pairs);
+                pairs.insert(self.rng.within(0, pairs.len()), fault);
+            }
+        }
+        let (mut gates, mut tables): (Vec<u64>, Vec<u64>) = pairs.into_iter().unzip();
+        if self.rng.chance(12) {
+            let first = self.rng.chance(2);
+            let list = if first { &mut gates } else { &mut tables };
+            list.resize(list.len() ^ 1, 0);
+        }
+        Call::Verdict { gates, tables }
+    }
+
+    /// None to all gates, each once, in any order, with tables of one kind or of any that fit; now and then up to 200 pairs.
+    fn handful(&mut self) -> Vec<(u64, u64)> {
+        let (n, m) = (self.fresh.loaded.n, self.fresh.loaded.m());
+        let most = *self.rng.pick(&[2, 4, m]);
+        let kind = self.rng.within(0, 9);
+        let mut gates = self.some_gates(most);
+        if self.rng.chance(20) {
+            gates.extend((0..self.rng.within(1, 160)).map(|_| self.rng.within(n, n + m - 1)));
+        }
+        let pair = |gate| (gate as u64, self.table_of(gate, kind));
+        gates.into_iter().map(pair).collect()
+    }
+
+    /// Up to so many gates, each once, in any order.
+    fn some_gates(&mut self, most: usize) -> Vec<usize> {
+        let (n, m) = (self.fresh.loaded.n, self.fresh.loaded.m());
+        let mut gates: Vec<usize> = (n..n + m).collect();
+        (0..m).for_each(|i| gates.swap(i, self.rng.within(i, m - 1)));
+        gates.truncate(self.rng.within(0, most));
+        gates
+    }
+
+    /// A pair that 11, 12 or, behind some other, 16 refuses.
+    fn fault(&mut self, pairs: &[(u64, u64)]) -> (u64, u64) {
+        let (n, m) = (self.fresh.loaded.n, self.fresh.loaded.m());
+        let gate = self.rng.within(n, n + m - 1);
+        let again = pairs.get(self.rng.within(0, pairs.len()));
+        match self.rng.within(0, 2) {
+            0 => (self.no_gate() as u64, self.rng.next()),
+            1 => (gate as u64, self.too_wide(gate - n)),
+            _ => *again.unwrap_or(&(gate as u64, self.fresh.loaded.tables[gate - n])),
+        }
+    }
+
+    /// A list of pairs that exchanges would accept, and a part of it.
+    pub fn acceptable(&mut self) -> [Vec<(u64, u64)>; 2] {
+        let gates = self.some_gates(self.fresh.loaded.m());
+        let pair = |gate| (gate as u64, self.table_of(gate, 1));
+        let all: Vec<(u64, u64)> = gates.into_iter().map(pair).collect();
+        let part = all.iter().copied().filter(|_| self.rng.chance(2)).collect();
+        [all, part]
+    }
+
+    /// Mostly a gate, often the last one; else none.
     pub fn gate(&mut self) -> usize {
         let (n, m) = (self.fresh.loaded.n, self.fresh.loaded.m());
         match self.rng.within(0, 11) {
-            0 => {
-                let alike = [self.gate + 256, self.gate + (1 << 32)];
-                let none = [0, n - 1, n + m, n + m + 1, 255, usize::MAX];
-                return *self.rng.pick(&[&alike[..], &none[..]].concat());
-            }
+            0 => return self.no_gate(),
             1..=5 => {}
             _ => self.gate = self.rng.within(n, n + m - 1),
         }
         self.gate
     }
 
-    /// A table for that gate: any, or one that alters open entries, entries of the full table, one entry or none of the
-    /// loaded table, or one that does not fit. Any table where the gate is none.
+    /// An input, the number behind the last gate, or one with the low bits of a gate's.
+    fn no_gate(&mut self) -> usize {
+        let (n, m) = (self.fresh.loaded.n, self.fresh.loaded.m());
+        let alike = [64, 256, 1 << 32, 1 << 63].map(|high| self.gate + high);
+        let none = [0, n - 1, n + m, n + m + 1, 64, 255, usize::MAX];
+        *self.rng.pick(&[&alike[..], &none[..]].concat())
+    }
+
+    /// A table for that gate, at times one that does not fit. Any table where the gate is none.
     pub fn table(&mut self, gate: usize) -> u64 {
         let Ok(g) = self.fresh.place(gate) else {
             return self.rng.next();
         };
+        match self.rng.within(0, 9) {
+            9 => self.too_wide(g),
+            kind => self.table_of(gate, kind),
+        }
+    }
+
+    /// A table that fits: any, or one that alters open entries, entries of the full table, one entry or none of the loaded
+    /// table, by kinds 0 to 8; and of any of these kinds.
+    fn table_of(&mut self, gate: usize, kind: usize) -> u64 {
+        let g = gate - self.fresh.loaded.n;
         let (loaded, open) = (self.fresh.loaded.tables[g], self.fresh.open[g]);
         let entries = self.fresh.loaded.entries(g);
         let all = (1 << entries) - 1;
         let some = self.rng.next();
-        let table = match self.rng.within(0, 9) {
+        let table = match kind {
             0 => *self.rng.pick(&[some & all, loaded ^ all]),
             1 | 2 => loaded ^ (open & some),
             3 => loaded ^ open,
@@ -80,13 +163,17 @@ impl User<'_> {
             5 => loaded,
             6 => self.tables[g] ^ (open & some),
             7 | 8 => loaded ^ (self.fresh.loaded.full(g) & some),
-            _ => return self.too_wide(loaded, entries),
+            _ => {
+                let kind = self.rng.within(0, 8);
+                return self.table_of(gate, kind);
+            }
         };
         self.tables[g] = table;
         table
     }
 
-    fn too_wide(&mut self, loaded: u64, entries: usize) -> u64 {
+    fn too_wide(&mut self, g: usize) -> u64 {
+        let (loaded, entries) = (self.fresh.loaded.tables[g], self.fresh.loaded.entries(g));
         let (next, any) = (1 << entries, 1 << self.rng.within(entries, 63));
         let wide = [loaded | next, loaded | any, 1 << 63, u64::MAX];
         *self.rng.pick(&wide)

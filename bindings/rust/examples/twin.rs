@@ -9,9 +9,11 @@ fn main() -> Result<(), Refusal> {
         0x4E, 0x4F, 3, // the output is gate 3
     ];
     let mut session = Session::load(&file)?;
-    say("verdict, gate 2 to 0", session.verdict(2, 0));
+    say("verdict, gate 1 to 0", session.verdict(&[(1, 0)]));
+    say("verdict, gate 2 to 0", session.verdict(&[(2, 0)]));
+    let both = session.verdict(&[(1, 0), (2, 0)]);
+    say("verdict, gates 1 and 2 to 0", both);
     say("exchange, gate 1 to 0", session.exchange(1, 0));
-    say("verdict, gate 2 to 0", session.verdict(2, 0));
     say("exchange, gate 2 to 0", session.exchange(2, 0));
     Ok(())
 }

@@ -1,4 +1,4 @@
-//! Don't-care tables of gate networks, verdicts on a lone replacement, and sessions of exchanges: safe calls of the
+//! Don't-care tables of gate networks, verdicts on any handful of gates, and sessions of exchanges: safe calls of the
 //! static library that `include/tusqirma.h` describes, which also says what signals, patterns and tables are, and what
 //! is proved.
 //!

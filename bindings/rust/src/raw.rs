@@ -15,7 +15,7 @@ mod c {
         pub fn tusqirma_all_tables(session: *const u64, session_len: usize, out: *mut u64, out_len: usize) -> u64;
         pub fn tusqirma_pattern_sets(session: *const u64, session_len: usize, words: *mut u64, words_len: usize) -> u64;
         pub fn tusqirma_hidden(session: *const u64, session_len: usize, out: *mut u64, out_len: usize) -> u64;
-        pub fn tusqirma_verdict(session: *const u64, session_len: usize, gate: usize, table: u64, out: *mut u64, out_len: usize) -> u64;
+        pub fn tusqirma_verdict(session: *const u64, session_len: usize, gates: *const u64, gates_len: usize, tables: *const u64, tables_len: usize, out: *mut u64, out_len: usize) -> u64;
         pub fn tusqirma_exchange(session: *mut u64, session_len: usize, gate: usize, table: u64, out: *mut u64, out_len: usize) -> u64;
         pub fn tusqirma_write(session: *const u64, session_len: usize, file: *mut u8, file_len: usize, out: *mut u64, out_len: usize) -> u64;
         pub fn tusqirma_listing(file: *const u8, file_len: usize, text: *mut u8, text_len: usize, out: *mut u64, out_len: usize) -> u64;
@@ -51,9 +51,21 @@ pub fn hidden(session: &[u64], out: &mut [u64]) -> u64 {
     unsafe { c::tusqirma_hidden(s, session.len(), o, out.len()) }
 }
 
-pub fn verdict(session: &[u64], gate: usize, table: u64, out: &mut [u64]) -> u64 {
+pub fn verdict(session: &[u64], gates: &[u64], tables: &[u64], out: &mut [u64]) -> u64 {
     let (s, o) = (session.as_ptr(), out.as_mut_ptr());
-    unsafe { c::tusqirma_verdict(s, session.len(), gate, table, o, out.len()) }
+    let (g, t) = (gates.as_ptr(), tables.as_ptr());
+    unsafe {
+        c::tusqirma_verdict(
+            s,
+            session.len(),
+            g,
+            gates.len(),
+            t,
+            tables.len(),
+            o,
+            out.len(),
+        )
+    }
 }
 
 pub fn exchange(session: &mut [u64], gate: usize, table: u64, out: &mut [u64]) -> u64 {

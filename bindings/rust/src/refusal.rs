@@ -42,6 +42,10 @@ pub enum Refusal {
         /// There, the lowest changed output number.
         output: u64,
     },
+    /// 15: a verdict's lists are of unequal length. Only the calls in [`raw`](crate::raw) can meet it.
+    ListsUnequal,
+    /// 16: a verdict names a gate a second time.
+    GateRepeated,
 }
 
 impl Refusal {
@@ -66,11 +70,13 @@ impl Refusal {
                 pattern: out[0],
                 output: out[1],
             },
+            15 => Refusal::ListsUnequal,
+            16 => Refusal::GateRepeated,
             other => unreachable!("no call returns {other}"),
         })
     }
 
-    /// 1 to 14.
+    /// 1 to 16.
     pub fn number(&self) -> u64 {
         match self {
             Refusal::Truncated => 1,
@@ -87,6 +93,8 @@ impl Refusal {
             Refusal::TableTooWide => 12,
             Refusal::ClosedEntry { .. } => 13,
             Refusal::Harm { .. } => 14,
+            Refusal::ListsUnequal => 15,
+            Refusal::GateRepeated => 16,
         }
     }
 }
@@ -116,6 +124,8 @@ impl fmt::Display for Refusal {
                     "the replacement changes output {output} at pattern {pattern}"
                 );
             }
+            Refusal::ListsUnequal => "there are not as many gates as tables",
+            Refusal::GateRepeated => "a gate is named a second time",
         };
         f.write_str(words)
     }

@@ -93,11 +93,13 @@ impl Session {
         Ok(out[..self.gate_count()].to_vec())
     }
 
-    /// Judges the current network with one gate's table replaced, against the loaded outputs: harmless, or refused with
-    /// [`Refusal::Harm`]. Refusals 10, 11, 12, 14.
-    pub fn verdict(&self, gate: usize, table: u64) -> Result<(), Refusal> {
+    /// Judges the current network with the table of each gate of the list replaced, all of them at once, against the loaded
+    /// outputs: harmless, or refused with [`Refusal::Harm`]. Refusals 10, 11, 12, 14, 16.
+    pub fn verdict(&self, replacements: &[(usize, u64)]) -> Result<(), Refusal> {
+        let (gates, tables): (Vec<u64>, Vec<u64>) =
+            replacements.iter().map(|&(g, t)| (g as u64, t)).unzip();
         let mut out = [0; 2];
-        let number = raw::verdict(&self.words[..], gate, table, &mut out);
+        let number = raw::verdict(&self.words[..], &gates, &tables, &mut out);
         Refusal::of(number, &out)
     }
 

@@ -97,7 +97,7 @@ module _ (Q : Answer → Type 0) where
   unfolding pairTest
   pairs-by N named [] g t w done = done
   pairs-by N named (r ∷ rs) g t w done =
-      or-by (pairTest N named r) (pairsTest N (r .signal ∷ named) rs)
+      or-by (pairTest N named r) _
       (first-by done (gateTest N (r .signal) ∷ refuseIf (member (r .signal) named) GateRepeated ∷ tableTest N r ∷ [])
       (gate-by N (r .signal) g (λ _. done), (if-by (member (r .signal) named) GateRepeated t (λ _. done), (table-by N r w (λ _. done), tt))))
-      (pairs-by N (r .signal ∷ named) rs g t w done)
+      (pairs-by N _ rs g t w done)

@@ -7,15 +7,15 @@ use super::state::{State, CURRENT};
 use crate::call::{Call, Lent};
 
 /// The number of the answer; the buffers are left as the call leaves them.
-pub fn call(call: Call, lent: &mut Lent) -> u64 {
+pub fn call(call: &Call, lent: &mut Lent) -> u64 {
     let answer = match call {
         Call::Load => load_into(lent),
-        Call::Tables { gate } => tables(lent, gate),
+        Call::Tables { gate } => tables(lent, *gate),
         Call::AllTables => all_tables(lent),
         Call::PatternSets => pattern_sets(lent),
         Call::Hidden => hidden(lent),
-        Call::Verdict { gate, table } => verdict(lent, gate, table),
-        Call::Exchange { gate, table } => exchange(lent, gate, table),
+        Call::Verdict { gates, tables } => verdict(lent, gates, tables),
+        Call::Exchange { gate, table } => exchange(lent, *gate, *table),
         Call::Write => write_into(lent),
         Call::Listing => listing_into(lent),
     };
@@ -83,13 +83,18 @@ fn fits(s: &State, g: usize, table: u64) -> Result<(), u64> {
     demand(table >> s.loaded.entries(g) == 0, 12)
 }
 
-fn verdict(lent: &mut Lent, gate: usize, table: u64) -> Result<(), u64> {
+/// 15; then the pairs in order, each 11, 16 and 12; then the harm with all of them in place.
+fn verdict(lent: &mut Lent, gates: &[u64], tables: &[u64]) -> Result<(), u64> {
     let s = State::read(&lent.session)?;
     demand(lent.out.len() >= 2, 9)?;
-    let g = s.place(gate)?;
-    fits(&s, g, table)?;
+    demand(gates.len() == tables.len(), 15)?;
     let mut replaced: Network = s.current.clone();
-    replaced.tables[g] = table;
+    for i in 0..gates.len() {
+        let g = s.place(gates[i] as usize)?;
+        demand(!gates[..i].contains(&gates[i]), 16)?;
+        fits(&s, g, tables[i])?;
+        replaced.tables[g] = tables[i];
+    }
     if let Some((pattern, output)) = s.loaded.harm(&replaced) {
         lay(&mut lent.out, &[pattern as u64, output as u64])?;
         return Err(14);
