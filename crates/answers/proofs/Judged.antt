@@ -2,7 +2,7 @@
 use mathlib.Core.Path.{_≡_, refl, sym, ap, ap₂, _∙_}
 use mathlib.Core.Bool.{Bool, true, false, not, _&&_}
 use mathlib.Core.List.{List, [], _∷_}
-use Prim.Native.Nat.{ℕ, _+_, _-_, _^_, _<_, _≤_}
+use Prim.Native.Nat.{ℕ, _+_, _-_, _^_, _≤_}
 use native.Mathlib.Omega.{arith}
 use lib.Dec.{leb, ltb}
 use lib.ListN.{length, getD}
@@ -16,10 +16,10 @@ use Rattle.network.specs.declared.Answer.{Answer}
 use Rattle.network.specs.declared.Answer.the-variants.{Done, Refused}
 use Rattle.network.specs.Bounds.{mostGates}
 use Rattle.network.specs.Net.{isGate, Replacement, replaced}
-use Rattle.network.specs.Flat.{netWith, loadedNet, currentNet}
+use Rattle.network.specs.Flat.{netWith, loadedNet, currentNet, storedAll}
 use Rattle.network.specs.Tests.{refuseIf, orElse, first, member}
 use Rattle.network.specs.State.{stateFault, stateTest}
-use Rattle.network.specs.Calls.{gateTest, fits, tableTest, harmTest, lengthsTest, pairs, storedAll, pairTest, pairsTest, verdictOf}
+use Rattle.network.specs.Calls.{gateTest, fits, tableTest, harmTest, lengthsTest, pairs, pairTest, pairsTest, verdictOf}
 use Rattle.network.proofs.TestLaws.{alone}
 use Rattle.network.proofs.Valid.{state-i}
 use Rattle.network.proofs.Exchanges.{gate-e}

@@ -4,12 +4,12 @@
 use mathlib.Core.Path.{_≡_, sym, ap, _∙_}
 use mathlib.Core.Logic.{_↔_}
 use mathlib.Core.Bool.{true}
-use mathlib.Core.List.{List, [], _∷_, map}
+use mathlib.Core.List.{List, [], _∷_}
 use Prim.Native.Nat.{ℕ, _≤_}
 use lib.ListN.{length, getD}
 use Rattle.bits.specs.Lists.{overwritten}
 use Rattle.network.specs.declared.Session.{Session}
-use Rattle.network.specs.Net.{Net, isGate, Replacement}
+use Rattle.network.specs.Net.{Net, isGate, Replacement, signals, newTables}
 use Rattle.network.specs.DontCares.{sdc, cdc, full}
 use Rattle.network.specs.Flat.{loadedNet, currentNet}
 use Rattle.network.specs.Refusals.{said}
@@ -66,7 +66,7 @@ module _ {ws : List ℕ} {s : Session} (at : Ready ws s) (list : List Asked) whe
 
   -- a verdict call returns 0 where the engine finds nothing
   harmless : (qs : List Replacement) (v : List ℕ) → 2 ≤ length v → said (verdictOn (after s rs) qs) ≡ [] → verdictCallOn (wordsAfter ws list) qs v .number ≡ 0
-  harmless qs v l = verdict-zero holds (map (λ r. r .signal) qs) (map (λ r. r .table) qs) v l .1
+  harmless qs v l = verdict-zero holds (signals qs) (newTables qs) v l .1
 
   accepted-after : (r : Replacement) (o : List ℕ) → exchangeCall (wordsAfter ws list) r o .number ≡ 0 → said (answerBy (loadedNet s) r) ≡ []
   accepted-after r o k = let a : Asked = record { exchange = r; out = o } in accepted (loadedNet s) a (sym (call-after at list a) ∙ k)

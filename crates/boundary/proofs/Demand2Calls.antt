@@ -2,7 +2,7 @@
 use mathlib.Core.Path.{_≡_, refl, sym, ap, ap₂, _∙_}
 use mathlib.Core.Logic.{_⊎_, ⊎-elim, _↔_}
 use mathlib.Core.Bool.{true}
-use mathlib.Core.List.{List, [], _∷_, map}
+use mathlib.Core.List.{List, [], _∷_}
 use Prim.Native.Nat.{ℕ, _+_, _*_, _^_, _≤_, _<_}
 use native.Mathlib.Nat.{min-le-left}
 use native.Mathlib.Omega.{arith}
@@ -18,7 +18,7 @@ use Rattle.network.specs.declared.Refusal.the-variants.{BufferTooShort, Invalid
 use Rattle.network.specs.declared.Answer.{Answer}
 use Rattle.network.specs.declared.Answer.the-variants.{Done, Refused}
 use Rattle.network.specs.Bounds.{excludedWords}
-use Rattle.network.specs.Net.{Net, isGate, patterns, Replacement}
+use Rattle.network.specs.Net.{Net, isGate, patterns, Replacement, signals, newTables}
 use Rattle.network.specs.Flat.{loadedNet, currentNet}
 use Rattle.network.specs.Refusals.{numberOf, said}
 use Rattle.network.specs.Tests.{first}
@@ -122,7 +122,7 @@ module _ (ws : List ℕ) (rs : List Replacement) (out : List ℕ) (j : Asks ws r
 
   -- the search for harm decides
   judged : verdictCallOn ws rs out ≡ left (harmTest L M) [] [] [] out
-  judged = verdict-left ws (map (λ r. r .signal) rs) (map (λ r. r .table) rs) out (j .0) o ∙ ap (λ (x : Answer). left x [] [] [] out) is
+  judged = verdict-left ws (signals rs) (newTables rs) out (j .0) o ∙ ap (λ (x : Answer). left x [] [] [] out) is
 
   -- what a call that gives nothing leaves, by what it says
   abbrev leftBy : List ℕ → Left
@@ -177,7 +177,7 @@ faulted-is ws rs f out v o w =
     let e = faulted-of N rs f .1 w in
     let names : NamesMost 0 (pairsTest N [] rs) = pairs-by (NamesMost 0) N [] rs (omega arith) (omega arith) (omega arith) (omega arith) in
     let is : verdictOn s rs ≡ Refused f = rw (words-state ws v, lengths-fine rs, pairs-back rs, e) in
-    verdict-left ws (map (λ r. r .signal) rs) (map (λ r. r .table) rs) out v o
+    verdict-left ws (signals rs) (newTables rs) out v o
     ∙ ap (λ (x : Answer). left x [] [] [] out) is ∙ sym (refused {a = Refused f} [] [] [] out refl (rw e at names) refl)
 
 unequal-is : (ws gs ts out : List ℕ) → (length gs ≡ length ts → ⊥) → wordsTest ws ≡ Done → 2 ≤ length out

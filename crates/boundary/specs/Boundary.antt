@@ -1,6 +1,6 @@
 -- The calls of the library for other languages, on lent words and bytes. Each is the engine's call on the session that the words hold:
 -- it returns 01's number, or 0, and puts named values at the start of `out`. Assumes nothing.
-use mathlib.Core.List.{List, [], _∷_, _++_, map}
+use mathlib.Core.List.{List, [], _∷_, _++_}
 use Prim.Native.Nat.{ℕ, zero, suc, _+_, _*_}
 use lib.ListN.{length}
 use Rattle.bits.specs.Range.{places}
@@ -9,7 +9,7 @@ use Rattle.network.specs.declared.Session.{Session}
 use Rattle.network.specs.declared.Tables.{Tables}
 use Rattle.network.specs.declared.Answer.{Answer}
 use Rattle.network.specs.declared.Answer.the-variants.{Done, Refused}
-use Rattle.network.specs.Net.{Replacement}
+use Rattle.network.specs.Net.{Replacement, signals, newTables}
 use Rattle.network.specs.Compatible.{compatibleCount}
 use Rattle.network.specs.Flat.{loadedNet}
 use Rattle.network.specs.Refusals.{numberOf, valuesOf}
@@ -123,7 +123,7 @@ verdictCall session gs ts out = onSession (verdictWork gs ts) session [] out
 
 -- the same of a list of pairs
 abbrev pub verdictCallOn : (session : List ℕ) → List Replacement → (out : List ℕ) → Left
-verdictCallOn session rs out = verdictCall session (map (λ r. r .signal) rs) (map (λ r. r .table) rs) out
+verdictCallOn session rs out = verdictCall session (signals rs) (newTables rs) out
 
 -- 13 names the entry
 abbrev pub exchangeWork : Replacement → Session → Work

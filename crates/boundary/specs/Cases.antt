@@ -4,7 +4,7 @@ use mathlib.Core.List.{List, [], _∷_, _++_, map}
 use Prim.Native.Nat.{ℕ, _+_, _-_}
 use lib.ListN.{set, take, replicate}
 use Rattle.text.specs.Ascii.{ascii}
-use Rattle.network.specs.Net.{Replacement}
+use Rattle.network.specs.Net.{Replacement, signals}
 use Rattle.network.specs.Examples.{twinBytes, twinSession, twinNet}
 use Rattle.render.specs.Listing.{mostListingBytes}
 use Rattle.packed.specs.Packed.{packedOf, arityStart, faninsStart, outputsStart, excludedStart, loadedStart, currentStart, openStart, sessionWords, byteWords}
@@ -89,5 +89,5 @@ inTurn =
     ∷ (allGiven (heard changed (asked 2 (7 ∷ 7 ∷ []) ∷ [])), 13 ∷ 1 ∷ 7 ∷ [])
     ∷ (wordsAfter changed (asked 3 [] ∷ []), changed)
     ∷ (allGiven (map (askedLeft twinNet) list), 0 ∷ 7 ∷ 13 ∷ 1 ∷ 7 ∷ 9 ∷ [])
-    ∷ (map (λ r. r .signal) (roomy list), 1 ∷ 2 ∷ [])
+    ∷ (signals (roomy list), 1 ∷ 2 ∷ [])
     ∷ []

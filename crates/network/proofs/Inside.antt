@@ -2,38 +2,30 @@
 -- entry of a gate is one of its full table, and rule 4 holds with the loaded table for what is altered. Assumes nothing.
 use mathlib.Core.Path.{_≡_, refl, sym, ap, _∙_, subst}
 use mathlib.Core.Logic.{_↔_}
-use mathlib.Core.Bool.{Bool, true, false, not, cond}
-use mathlib.Core.List.{List, [], _∷_, _++_}
-use Prim.Native.Nat.{ℕ, _+_, _-_, _<_, _≤_}
+use mathlib.Core.Bool.{Bool, true, false, not}
+use mathlib.Core.List.{List, [], _∷_}
+use Prim.Native.Nat.{ℕ, _+_, _-_, _<_}
 use native.Mathlib.Decide.{ℕ-discrete, decLt}
 use native.Mathlib.Omega.{arith}
 use lib.Dec.{eqb}
-use lib.ListN.{length, getD, set, length-set}
-use lib.Seq.{getD-set-same, getD-set-other, ext-getD}
 use borrow.Author.Tests.{eq-eqb, ne-eqb, lt-ltb}
 use Rattle.bits.specs.Bit.{bit, differs, tableOf}
 use Rattle.bits.proofs.BitLaws.{bit-above}
-use Rattle.bits.proofs.Ranges.{by-cases, length-places, bit-table, table-lt}
-use Rattle.bits.proofs.Logic.{clash, and-not, differs-i, beq-i}
+use Rattle.bits.proofs.Ranges.{by-cases, bit-table, table-lt}
+use Rattle.bits.proofs.Logic.{clash, and-not, differs-i}
 use Rattle.network.specs.declared.Session.{Session}
-use Rattle.network.specs.declared.Answer.{Answer}
 use Rattle.network.specs.declared.Answer.the-variants.{Done}
-use Rattle.network.specs.Bounds.{mostGates}
-use Rattle.network.specs.Net.{Gate, Net, isGate, noGate, gate, entries, patterns, excludedFor, output, Replacement, withTable, withGates, replaced}
-use Rattle.network.specs.DontCares.{full, harms}
+use Rattle.network.specs.Net.{Gate, Net, isGate, gate, entries, Replacement, withTable}
+use Rattle.network.specs.DontCares.{full}
 use Rattle.network.specs.Compatible.{closed, openTable}
-use Rattle.network.specs.Flat.{gateAt, gatesOf, netOf, netWith, loadedNet, currentNet}
+use Rattle.network.specs.Flat.{loadedNet, currentNet}
 use Rattle.network.specs.Refusals.{said}
 use Rattle.network.specs.Calls.{fits, alters, verdictOn}
-use Rattle.network.specs.Sessions.{after, answerBy, took, lastAccepted, finalTables, NoHarm, Inside, InsideOf}
+use Rattle.network.specs.Sessions.{after, answerBy, lastAccepted, Inside, InsideOf}
 use Rattle.network.proofs.Fresh.{Fresh}
-use Rattle.network.proofs.Valid.{state-i}
-use Rattle.network.proofs.FlatGates.{length-gates}
-use Rattle.network.proofs.Earlier.{gates-at}
-use Rattle.network.proofs.Said.{said-done}
 use Rattle.network.proofs.Lone.{lone-session}
 use Rattle.network.proofs.Reached.{loaded-fresh}
-use Rattle.network.proofs.Exchanges.{accepts, accepts-e, answer-because, answer-only-because, Cause, gate-e, open-bit, set-at, gates-most, after-valid, after-loaded}
+use Rattle.network.proofs.Exchanges.{accepts, answer-only-because, gate-e, open-bit, after-valid, after-loaded}
 use Rattle.network.proofs.Demand3.{KeepsClosed, last-keeps, outputs-loaded, demand3}
 use Rattle.network.proofs.Together.{together}
 

@@ -3,7 +3,7 @@
 use mathlib.Core.Path.{_≡_, refl, sym, ap, ap₂, _∙_}
 use mathlib.Core.Logic.{_↔_}
 use mathlib.Core.Bool.{Bool, true, false, not, _||_}
-use mathlib.Core.List.{List, [], _∷_, _++_, map}
+use mathlib.Core.List.{List, [], _∷_, _++_}
 use Prim.Native.Nat.{ℕ, zero, suc, _+_, _-_, _<_, _≤_}
 use native.Mathlib.Nat.{not-suc-le-zero}
 use native.Mathlib.Omega.{arith}
@@ -19,7 +19,7 @@ use Rattle.network.specs.declared.Refusal.{Refusal}
 use Rattle.network.specs.declared.Refusal.the-variants.{NotAGate, TableTooWide, GateRepeated}
 use Rattle.network.specs.declared.Answer.{Answer}
 use Rattle.network.specs.declared.Answer.the-variants.{Done, Refused}
-use Rattle.network.specs.Net.{Net, isGate, Replacement, replaced}
+use Rattle.network.specs.Net.{Net, isGate, Replacement, signals, newTables, replaced}
 use Rattle.network.specs.Flat.{loadedNet, currentNet}
 use Rattle.network.specs.Refusals.{said}
 use Rattle.network.specs.Tests.{refuseIf, orElse, first, member}
@@ -28,32 +28,26 @@ use Rattle.network.specs.Calls.{gateTest, fits, tableTest, harmTest, len
 use Rattle.network.specs.Lists.{Sound, PairExactOf, JudgedOf, FaultedOf, FewOf, ListedOf, UnequalOf, LoneOf}
 use Rattle.network.proofs.TestLaws.{refused-done, passed, kept, both, clear-e, alone}
 
-abbrev signals : List Replacement → List ℕ
-signals rs = map (λ r. r .signal) rs
-
-abbrev tables : List Replacement → List ℕ
-tables rs = map (λ r. r .table) rs
-
 -- ## Pairs, and two lists
 
-pub pairs-back : (rs : List Replacement) → pairs (signals rs) (tables rs) ≡ rs
+pub pairs-back : (rs : List Replacement) → pairs (signals rs) (newTables rs) ≡ rs
 pairs-back [] = refl
 pairs-back (r ∷ rs) = ap (λ (l : List Replacement). r ∷ l) (pairs-back rs)
 
-as-long : (rs : List Replacement) → length (signals rs) ≡ length (tables rs)
+as-long : (rs : List Replacement) → length (signals rs) ≡ length (newTables rs)
 as-long [] = refl
 as-long (r ∷ rs) = ap suc (as-long rs)
 
-pub lengths-fine : (rs : List Replacement) → lengthsTest (signals rs) (tables rs) ≡ Done
+pub lengths-fine : (rs : List Replacement) → lengthsTest (signals rs) (newTables rs) ≡ Done
 unfolding lengthsTest
-lengths-fine rs = rw (eq-eqb (length (signals rs)) (length (tables rs)) (as-long rs))
+lengths-fine rs = rw (eq-eqb (length (signals rs)) (length (newTables rs)) (as-long rs))
 
 pub signals-back : (gs ts : List ℕ) → length gs ≡ length ts → signals (pairs gs ts) ≡ gs
 signals-back [] ts e = refl
 signals-back (g ∷ gs) [] e = let z : ⊥ = omega arith in absurd z
 signals-back (g ∷ gs) (t ∷ ts) e = ap (λ (l : List ℕ). g ∷ l) (signals-back gs ts (omega arith))
 
-pub tables-back : (gs ts : List ℕ) → length gs ≡ length ts → tables (pairs gs ts) ≡ ts
+pub tables-back : (gs ts : List ℕ) → length gs ≡ length ts → newTables (pairs gs ts) ≡ ts
 tables-back [] [] e = refl
 tables-back [] (t ∷ ts) e = let z : ⊥ = omega arith in absurd z
 tables-back (g ∷ gs) [] e = let z : ⊥ = omega arith in absurd z

@@ -8,8 +8,7 @@ use lib.ListN.{length, getD, set, length-set}
 use lib.Seq.{ext-getD, getD-set-same, getD-set-other}
 use Rattle.network.specs.declared.Session.{Session}
 use Rattle.network.specs.Net.{Gate, Net, noGate, Replacement, withTable, withGates, replaceOne, replaced}
-use Rattle.network.specs.Flat.{gateAt, gatesOf, netOf, netWith, loadedNet}
-use Rattle.network.specs.Calls.{storedAll}
+use Rattle.network.specs.Flat.{gateAt, gatesOf, netOf, netWith, loadedNet, storedAll}
 use Rattle.network.specs.Lists.{Sound}
 use Rattle.network.proofs.FlatGates.{length-gates}
 use Rattle.network.proofs.Earlier.{gates-at}

@@ -11,14 +11,13 @@ use Rattle.bits.proofs.Ranges.{by-cases, length-places}
 use Rattle.bits.proofs.Logic.{clash, beq-i}
 use Rattle.network.specs.declared.Session.{Session}
 use Rattle.network.specs.declared.Answer.{Answer}
-use Rattle.network.specs.declared.Answer.the-variants.{Done}
 use Rattle.network.specs.Bounds.{mostGates}
 use Rattle.network.specs.Net.{Net, isGate, patterns, excludedFor, output, Replacement, replaced}
 use Rattle.network.specs.DontCares.{harms}
-use Rattle.network.specs.Flat.{netOf, netWith, loadedNet, currentNet}
+use Rattle.network.specs.Flat.{netOf, netWith, loadedNet, currentNet, storedAll}
 use Rattle.network.specs.Refusals.{said}
 use Rattle.network.specs.Tests.{member}
-use Rattle.network.specs.Calls.{fits, storedAll, harmTest, verdictOn}
+use Rattle.network.specs.Calls.{fits, harmTest, verdictOn}
 use Rattle.network.specs.Lists.{Sound}
 use Rattle.network.specs.Sessions.{after, answerBy, took, lastAccepted, finalTables, NoHarm, Acceptable, picked, Together, TogetherOf}
 use Rattle.network.proofs.Fresh.{Fresh}

@@ -2,7 +2,7 @@
 -- byte of a lent buffer. Each call's tests stand in 01's order: 10 before all else, then 9, or 15, and of each gate 11, 16 and 12, then
 -- 13 or 14. Assumes nothing.
 use mathlib.Core.Bool.{Bool, not, _&&_}
-use mathlib.Core.List.{List, [], _∷_, _++_, map}
+use mathlib.Core.List.{List, [], _∷_, _++_}
 use Prim.Native.Nat.{ℕ, zero, suc, _+_, _-_, _^_}
 use lib.Dec.{eqb, ltb}
 use lib.ListN.{length, getD, set, replicate}
@@ -23,7 +23,7 @@ use Rattle.network.specs.declared.Refusal.the-variants.{BufferTooShort, 
 use Rattle.network.specs.declared.Answer.{Answer}
 use Rattle.network.specs.declared.Answer.the-variants.{Done, Refused}
 use Rattle.network.specs.Bounds.{mostGates}
-use Rattle.network.specs.Net.{Net, isGate, gate, entries, patternOrder, Replacement, replaced}
+use Rattle.network.specs.Net.{Net, isGate, gate, entries, patternOrder, Replacement, signals, newTables, replaced}
 use Rattle.network.specs.DontCares.{sdc, cdc, odc, full, harms}
 use Rattle.network.specs.Compatible.{compatible, compatibleCount, perGate}
 use Rattle.network.specs.Flat.{loadedNet, currentNet, wordsOf}
@@ -122,11 +122,6 @@ pairs [] ts = []
 pairs (g ∷ gs) [] = []
 pairs (g ∷ gs) (t ∷ ts) = record { signal = g; table = t } ∷ pairs gs ts
 
--- the tables ts of the gates from signal n on, with those of the pairs stored
-abbrev pub storedAll : (n : ℕ) → List Replacement → (ts : List ℕ) → List ℕ
-storedAll n [] ts = ts
-storedAll n (r ∷ rs) ts = storedAll n rs (set ts (r .signal - n) (r .table))
-
 -- of one pair, where those before it name these gates: 11, then 16, then 12
 unfoldable pub pairTest : Net → (named : List ℕ) → Replacement → Answer
 pairTest N named r = first (gateTest N (r .signal) ∷ refuseIf (member (r .signal) named) GateRepeated ∷ tableTest N r ∷ [])
@@ -148,7 +143,7 @@ verdictOf s gs ts =
 
 -- the same of a list of pairs
 abbrev pub verdictOn : Session → List Replacement → Answer
-verdictOn s rs = verdictOf s (map (λ r. r .signal) rs) (map (λ r. r .table) rs)
+verdictOn s rs = verdictOf s (signals rs) (newTables rs)
 
 -- ## Tables of a gate. The open table is the one that the session holds
 

@@ -1,16 +1,16 @@
 -- The networks that a session holds in flat arrays, and sets of patterns as words: 01, 'A session holds both' and 'Pattern sets'.
 -- Assumes nothing.
 use mathlib.Core.Bool.{Bool, _&&_}
-use mathlib.Core.List.{List}
-use Prim.Native.Nat.{ℕ, _+_, _*_, _^_}
+use mathlib.Core.List.{List, [], _∷_}
+use Prim.Native.Nat.{ℕ, _+_, _-_, _*_, _^_}
 use lib.Dec.{ltb}
-use lib.ListN.{getD}
+use lib.ListN.{getD, set}
 use Rattle.bits.specs.Bounds.{gatePlaces}
 use Rattle.bits.specs.Range.{places}
 use Rattle.bits.specs.Bit.{tableOf}
 use Rattle.bits.specs.Cut.{wordCount}
 use Rattle.network.specs.declared.Session.{Session}
-use Rattle.network.specs.Net.{Gate, Net}
+use Rattle.network.specs.Net.{Gate, Net, Replacement}
 
 -- gate g has its k fan-ins at places gatePlaces g and on
 abbrev pub faninsAt : (arity fanins : List ℕ) → ℕ → List ℕ
@@ -36,6 +36,11 @@ loadedNet s = netWith s (s .loaded)
 
 unfoldable pub currentNet : Session → Net
 currentNet s = netWith s (s .current)
+
+-- the tables ts of the gates behind n inputs, with those of a list of replacements stored one after the other
+abbrev pub storedAll : (n : ℕ) → List Replacement → (ts : List ℕ) → List ℕ
+storedAll n [] ts = ts
+storedAll n (r ∷ rs) ts = storedAll n rs (set ts (r .signal - n) (r .table))
 
 -- ## A set of patterns below 2^n as words of 64
 

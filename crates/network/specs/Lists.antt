@@ -3,13 +3,13 @@
 use mathlib.Core.Path.{_≡_}
 use mathlib.Core.Logic.{_↔_}
 use mathlib.Core.Bool.{true, false}
-use mathlib.Core.List.{List, [], _∷_, _++_, map}
+use mathlib.Core.List.{List, [], _∷_, _++_}
 use Prim.Native.Nat.{ℕ, _≤_}
 use lib.ListN.{length}
 use Rattle.network.specs.declared.Session.{Session}
 use Rattle.network.specs.declared.Refusal.{Refusal}
 use Rattle.network.specs.declared.Answer.the-variants.{Done, Refused}
-use Rattle.network.specs.Net.{Net, isGate, Replacement, replaced}
+use Rattle.network.specs.Net.{Net, isGate, Replacement, signals, replaced}
 use Rattle.network.specs.Flat.{loadedNet, currentNet}
 use Rattle.network.specs.Refusals.{said}
 use Rattle.network.specs.Tests.{first, member}
@@ -41,7 +41,7 @@ pub record FirstFault (N : Net) (rs : List Replacement) (f : Refusal) : Type 0 w
   pub behind : List Replacement
   pub whole : rs ≡ before ++ fault ∷ behind
   pub sound : Sound N [] before
-  pub refused : pairTest N (map (λ r. r .signal) before) fault ≡ Refused f
+  pub refused : pairTest N (signals before) fault ≡ Refused f
 
 abbrev pub FaultedOf : Type 0
 FaultedOf = (N : Net) (rs : List Replacement) (f : Refusal) → (pairsTest N [] rs ≡ Refused f) ↔ FirstFault N rs f

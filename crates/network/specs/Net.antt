@@ -93,6 +93,13 @@ pub record Replacement : Type 0 where
   pub signal : ℕ
   pub table : ℕ
 
+-- the gates of a list of them, and the new tables
+abbrev pub signals : List Replacement → List ℕ
+signals rs = map (λ r. r .signal) rs
+
+abbrev pub newTables : List Replacement → List ℕ
+newTables rs = map (λ r. r .table) rs
+
 abbrev pub withTable : Gate → ℕ → Gate
 withTable g t = record { fanins = g .fanins; table = t }
 

@@ -19,8 +19,9 @@ use Rattle.network.specs.declared.Refusal.the-variants.{NotAGate}
 use Rattle.network.specs.declared.Answer.{Answer}
 use Rattle.network.specs.declared.Answer.the-variants.{Done, Refused}
 use Rattle.network.specs.Net.{Replacement}
+use Rattle.network.specs.Flat.{storedAll}
 use Rattle.network.specs.Tests.{refuseIf, orElse, member}
-use Rattle.network.specs.Calls.{pairs, storedAll}
+use Rattle.network.specs.Calls.{pairs}
 use Rattle.network.proofs.TestLaws.{both, kept}
 use Rattle.replacements.specs.Pair.{GatesIn, pairBy, pairsBy}
 

@@ -6,7 +6,8 @@ use native.Mathlib.Omega.{arith}
 use lib.ListN.{length, drop}
 use borrow.Author.Needs.{needs}
 use Rattle.network.specs.Bounds.{mostGates}
-use Rattle.network.specs.Calls.{pairs, storedAll}
+use Rattle.network.specs.Flat.{storedAll}
+use Rattle.network.specs.Calls.{pairs}
 use Rattle.replacements.proofs.Pairs.{stored-next, stored-end, stored-length}
 use Rattle.replacements.proofs.replace_tables.Statement.{statement}
 use Rattle.replacements.proofs.replace_tables.Tie as tie
