@@ -69,7 +69,9 @@ impl User<'_> {
         if self.rng.chance(12) {
             let first = self.rng.chance(2);
             let list = if first { &mut gates } else { &mut tables };
-            list.resize(list.len() ^ 1, 0);
+            let (length, more) = (list.len(), self.rng.within(1, 40));
+            let other = [0, length.saturating_sub(1), length + 1, length + more];
+            list.resize(*self.rng.pick(&other), 0);
         }
         Call::Verdict { gates, tables }
     }
