@@ -9,15 +9,14 @@ use native.Mathlib.Omega.{arith}
 use lib.Bits.{bitAnd, bitOr}
 use lib.Dec.{eqb}
 use lib.ListN.{length, getD, take, set, length-append}
-use lib.Pow.{pow-lt}
 use lib.Seq.{getD-take, getD-at, getD-set-same, getD-set-other, set-getD, take-take, take-length, take-append-le}
 use borrow.Author.Tests.{eq-eqb, ne-eqb}
 use Rattle.bits.specs.Bounds.{gatePlaces}
 use Rattle.bits.specs.Range.{places}
 use Rattle.bits.specs.Bit.{bit, differs, column}
-use Rattle.bits.proofs.BitLaws.{bit-and, bit-or, bit-zero, bit-above, power-own}
+use Rattle.bits.proofs.BitLaws.{bit-and, bit-or, bit-zero, power-own, power-other}
 use Rattle.bits.proofs.Logic.{clash}
-use Rattle.bits.proofs.Ranges.{or-r, length-places, places-ext, column-at}
+use Rattle.bits.proofs.Ranges.{or-r, or-false, length-places, places-ext, column-at}
 use Rattle.network.specs.Bounds.{mostSignals, signalWords}
 use Rattle.network.specs.Net.{Gate, entry, run}
 use Rattle.network.specs.DontCares.{runInverted}
@@ -125,13 +124,6 @@ module _ (ks fs ts us : List ℕ) (n x g : ℕ)
 
 -- ## Sets of signals
 
-power-above : (k i : ℕ) → k < i → bit (2 ^ k) i ≡ false
-power-above k i h = bit-above (2 ^ k) i i (pow-lt h) (omega arith)
-
-or-false : (a b : Bool) → (a || b) ≡ false → (a ≡ false) × (b ≡ false)
-or-false true b e = (e, clash refl e)
-or-false false b e = (refl, e)
-
 -- one signal more of a set
 pub mask-step : (F : ℕ → ℕ) (mask v r : ℕ) → ((q : ℕ) → q < r → bit mask (F q) ≡ true) → v ≡ 2 ^ F r
     → (q : ℕ) → q < r + 1 → bit (bitOr mask v) (F q) ≡ true
@@ -213,7 +205,7 @@ module _ (ks fs us ts old : List ℕ) (n m count : ℕ) (sim : Rows ks fs us old
             ap (λ (l : List ℕ). getD l s 0) (put w hw)
             ∙ getD-set-other (wordsAt rows w) (n + h) s (row w) 0 (λ q. clash (ap (bit (2 ^ (n + h))) q ∙ power-own (n + h)) (c .1))
             ∙ so-far .kept w s hw (c .0);
-        later = λ s l. bit-or changed (2 ^ (n + h)) s ∙ ap₂ _||_ (so-far .later s (omega arith)) (power-above (n + h) s (omega arith));
+        later = λ s l. bit-or changed (2 ^ (n + h)) s ∙ ap₂ _||_ (so-far .later s (omega arith)) (power-other (n + h) s (λ e. omega arith));
       }
         where
           clear : (s : ℕ) → bit (bitOr changed (2 ^ (n + h))) s ≡ false → (bit changed s ≡ false) × (bit (2 ^ (n + h)) s ≡ false)

@@ -1,7 +1,7 @@
 -- Networks whose gates see earlier signals alone: what the flat arrays must pass for it, and that a value, once worked out, stays.
 -- Assumes nothing.
 use mathlib.Core.Path.{_≡_, refl, sym, ap, ap₂, _∙_, subst}
-use mathlib.Core.Bool.{Bool, true, false}
+use mathlib.Core.Bool.{Bool, true, false, _&&_}
 use mathlib.Core.List.{List, [], _∷_, _++_, map}
 use Prim.Native.Nat.{ℕ, suc, _+_, _-_, _^_, _<_, _≤_}
 use native.Mathlib.Omega.{arith}
@@ -52,12 +52,13 @@ earlier-net {ks} {fs} {n} {m} ts ok =
         let k : r < getD ks i 0 = omega (arith, arity-at ks fs ts i) in
         omega (arith, fanin-at ks fs ts i r k, ok .gate i l .early r k)
 
+-- one of the m gates behind n inputs
+pub gate-in : (n m g : ℕ) → (leb n g && ltb g (n + m)) ≡ true → (n ≤ g) × (g < n + m)
+gate-in n m g e = (leb-true n g (and-l (leb n g) (ltb g (n + m)) e), ltb-true g (n + m) (and-r (leb n g) (ltb g (n + m)) e))
+
 pub gate-bounds : (N : Net) (s : ℕ) → isGate N s ≡ true → (N .inputs ≤ s) × (s < N .inputs + length (N .gates))
 unfolding isGate
-gate-bounds N s w = (
-  leb-true (N .inputs) s (and-l (leb (N .inputs) s) (ltb s (N .inputs + length (N .gates))) w),
-  ltb-true s (N .inputs + length (N .gates)) (and-r (leb (N .inputs) s) (ltb s (N .inputs + length (N .gates))) w),
-)
+gate-bounds N s w = gate-in (N .inputs) (length (N .gates)) s w
 
 -- ## Entries
 

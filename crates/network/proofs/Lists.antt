@@ -7,11 +7,11 @@ use mathlib.Core.List.{List, [], _∷_, _++_}
 use Prim.Native.Nat.{ℕ, zero, suc, _+_, _-_, _<_, _≤_}
 use native.Mathlib.Nat.{not-suc-le-zero}
 use native.Mathlib.Omega.{arith}
-use lib.Dec.{eqb, leb, ltb}
+use lib.Dec.{eqb}
 use lib.ListN.{length, getD}
-use borrow.Author.Tests.{eq-eqb, ne-eqb, leb-true, ltb-true}
+use borrow.Author.Tests.{eq-eqb, ne-eqb}
 use Rattle.bits.specs.Range.{num, count}
-use Rattle.bits.proofs.Ranges.{and-l, and-r, lt-cases}
+use Rattle.bits.proofs.Ranges.{or-comm, lt-cases}
 use Rattle.bits.proofs.Cuts.{count-ext, count-le}
 use Rattle.bits.proofs.Logic.{clash}
 use Rattle.network.specs.declared.Session.{Session}
@@ -26,6 +26,7 @@ use Rattle.network.specs.Tests.{refuseIf, orElse, first, member}
 use Rattle.network.specs.State.{stateTest}
 use Rattle.network.specs.Calls.{gateTest, fits, tableTest, harmTest, lengthsTest, pairs, pairTest, pairsTest, verdictOf, verdictOn}
 use Rattle.network.specs.Lists.{Sound, PairExactOf, JudgedOf, FaultedOf, FewOf, ListedOf, UnequalOf, LoneOf}
+use Rattle.network.proofs.Earlier.{gate-bounds}
 use Rattle.network.proofs.TestLaws.{refused-done, passed, kept, both, clear-e, alone}
 
 -- ## Pairs, and two lists
@@ -137,10 +138,6 @@ module _ (N : Net) where
   either false true c = refl
   either false false c = refl
 
-  none : (a : Bool) → a || false ≡ a
-  none true = refl
-  none false = refl
-
   onto-member : (k : ℕ) (named : List ℕ) (rs : List Replacement) → member k (onto named rs) ≡ member k (signals rs) || member k named
   onto-member k named [] = refl
   onto-member k named (r ∷ rs) = onto-member k (r .signal ∷ named) rs ∙ either (member k (signals rs)) (eqb (r .signal) k) (member k named)
@@ -150,7 +147,7 @@ module _ (N : Net) where
   unfolding pairTest
   same-names before r =
       ap (λ (b : Bool). first (gateTest N (r .signal) ∷ refuseIf b GateRepeated ∷ tableTest N r ∷ []))
-      (onto-member (r .signal) [] before ∙ none (member (r .signal) (signals before)))
+      (onto-member (r .signal) [] before ∙ or-comm (member (r .signal) (signals before)) false)
 
   -- where those of `named` are named before
   record Fault (named : List ℕ) (rs : List Replacement) (f : Refusal) : Type 0 where
@@ -235,11 +232,9 @@ module _ (N : Net) where
   named-gates named g = member (N .inputs + g) named
 
   few : (named : List ℕ) (rs : List Replacement) → Sound N named rs → length rs + count m (named-gates named) ≤ m
-  unfolding isGate
   few named [] s = omega (arith, count-le m (named-gates named))
   few named (r ∷ rs) s =
-      let low : N .inputs ≤ r .signal = leb-true (N .inputs) (r .signal) (and-l (leb (N .inputs) (r .signal)) (ltb (r .signal) (N .inputs + m)) (s .0)) in
-      let high : r .signal < N .inputs + m = ltb-true (r .signal) (N .inputs + m) (and-r (leb (N .inputs) (r .signal)) (ltb (r .signal) (N .inputs + m)) (s .0)) in
+      let b = gate-bounds N (r .signal) (s .0) in
       let g = r .signal - N .inputs in
       let back : N .inputs + g ≡ r .signal = omega arith in
       let more : count m (named-gates (r .signal ∷ named)) ≡ suc (count m (named-gates named)) =

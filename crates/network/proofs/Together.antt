@@ -7,8 +7,8 @@ use Prim.Native.Nat.{ℕ, suc, _+_, _-_, _<_, _≤_}
 use native.Mathlib.Omega.{arith}
 use lib.Dec.{eqb}
 use lib.ListN.{length, getD, set, length-set}
-use Rattle.bits.proofs.Ranges.{by-cases, length-places}
-use Rattle.bits.proofs.Logic.{clash, beq-i}
+use Rattle.bits.proofs.Ranges.{or-false, by-cases, length-places}
+use Rattle.bits.proofs.Logic.{beq-i}
 use Rattle.network.specs.declared.Session.{Session}
 use Rattle.network.specs.declared.Answer.{Answer}
 use Rattle.network.specs.Bounds.{mostGates}
@@ -45,15 +45,11 @@ module _ (N : Net) where
   part-acceptable named more p (r ∷ rs) f a =
       by-cases (p 0)
       (λ e. rw e (a .0, f (r .signal) (a .1), part-acceptable (r .signal ∷ named) (r .signal ∷ more) (λ i. p (suc i)) rs (λ k. either (eqb (r .signal) k) (member k more) (member k named) (f k)) (a .2)))
-      (λ e. rw e (part-acceptable named (r .signal ∷ more) (λ i. p (suc i)) rs (λ k m. f k (rest (eqb (r .signal) k) (member k more) m)) (a .2)))
+      (λ e. rw e (part-acceptable named (r .signal ∷ more) (λ i. p (suc i)) rs (λ k m. f k (or-false (eqb (r .signal) k) (member k more) m .1)) (a .2)))
     where
       either : (e x y : Bool) → (x ≡ false → y ≡ false) → (e || x) ≡ false → (e || y) ≡ false
       either true x y f h = h
       either false x y f h = f h
-
-      rest : (e x : Bool) → (e || x) ≡ false → x ≡ false
-      rest true x h = clash refl h
-      rest false x h = h
 
 module _ (s : Session) where
   -- place by place, the tables stored are the last accepted ones

@@ -1,6 +1,6 @@
 -- The tests of pairs by numbers, and the turns of the loops over two lists. Assumes nothing.
 use mathlib.Core.Path.{_≡_, refl, sym, ap, ap₂, _∙_}
-use mathlib.Core.Bool.{Bool, true, false, not, _&&_, _||_}
+use mathlib.Core.Bool.{Bool, not, _&&_, _||_}
 use mathlib.Core.List.{List, [], _∷_}
 use Prim.Native.Nat.{ℕ, zero, suc, _+_, _-_, _^_, _<_, _≤_}
 use native.Mathlib.Nat.{not-suc-le-zero}
@@ -10,10 +10,9 @@ use lib.Dec.{eqb, leb, ltb}
 use lib.Bits.{bitOr}
 use lib.ListN.{length, getD, drop, set, length-set, drop-of-length-le}
 use lib.Seq.{drop-cons}
-use borrow.Author.Tests.{leb-true, ltb-true}
 use Rattle.bits.specs.Bit.{bit}
 use Rattle.bits.proofs.BitLaws.{bit-or, bit-power}
-use Rattle.bits.proofs.Ranges.{and-l, and-r}
+use Rattle.bits.proofs.Ranges.{or-comm}
 use Rattle.network.specs.declared.Refusal.{Refusal}
 use Rattle.network.specs.declared.Refusal.the-variants.{NotAGate}
 use Rattle.network.specs.declared.Answer.{Answer}
@@ -22,13 +21,11 @@ use Rattle.network.specs.Net.{Replacement}
 use Rattle.network.specs.Flat.{storedAll}
 use Rattle.network.specs.Tests.{refuseIf, orElse, member}
 use Rattle.network.specs.Calls.{pairs}
+use Rattle.network.proofs.Earlier.{gate-in}
 use Rattle.network.proofs.TestLaws.{both, kept}
 use Rattle.replacements.specs.Pair.{GatesIn, pairBy, pairsBy}
 
 -- ## What a pair that is not refused tells
-
-pub gate-in : (n m g : ℕ) → (leb n g && ltb g (n + m)) ≡ true → (n ≤ g) × (g < n + m)
-gate-in n m g e = (leb-true n g (and-l (leb n g) (ltb g (n + m)) e), ltb-true g (n + m) (and-r (leb n g) (ltb g (n + m)) e))
 
 module _ (n m : ℕ) (ks : List ℕ) where
   pub pair-in : (again : Bool) (g t : ℕ) → pairBy n m ks again g t ≡ Done → (n ≤ g) × (g < n + m)
@@ -49,13 +46,7 @@ pub seen-next : (gs named : List ℕ) (i seen p : ℕ) → ((k : ℕ) → bit se
     → (k : ℕ) → bit (bitOr seen p) k ≡ member k (getD gs i 0 ∷ named)
 seen-next gs named i seen p so-far q k =
     bit-or seen p k ∙ ap₂ (λ (x y : Bool). x || y) (so-far k) (ap (λ (x : ℕ). bit x k) q ∙ bit-power (getD gs i 0) k)
-    ∙ swap (member k named) (eqb (getD gs i 0) k)
-  where
-    swap : (x y : Bool) → (x || y) ≡ (y || x)
-    swap true true = refl
-    swap true false = refl
-    swap false true = refl
-    swap false false = refl
+    ∙ or-comm (member k named) (eqb (getD gs i 0) k)
 
 -- the pair at i, and those behind it
 pub pairs-at : (gs ts : List ℕ) (i : ℕ) → i < length gs → i < length ts

@@ -12,9 +12,9 @@ use Rattle.network.specs.declared.Refusal.{Refusal}
 use Rattle.network.specs.declared.Refusal.the-variants.{NotAGate, TableTooWide, GateRepeated, BitPastEnd}
 use Rattle.network.specs.declared.Answer.the-variants.{Done, Refused}
 use Rattle.network.specs.Tests.{refuseIf, orElse, widthTest}
+use Rattle.network.proofs.Earlier.{gate-in}
 use Rattle.network.proofs.TestLaws.{refused-done, kept}
 use Rattle.replacements.specs.Pair.{pairBy}
-use Rattle.replacements.proofs.Pairs.{gate-in}
 use Rattle.replacements.proofs.pair_test.Statement.{statement}
 use Rattle.replacements.proofs.pair_test.Tie as tie
 
