@@ -61,8 +61,8 @@ pub fn compare(report: &mut Report) {
     let board = "examples/board.net";
     program(
         report,
-        "examples/order.c",
+        "examples/ask.c",
         board,
-        include_str!("../c/order.txt"),
+        include_str!("../c/ask.txt"),
     );
 }

@@ -1,9 +1,9 @@
 //! Compares the engine with a plain enumeration of document 01: through its C boundary, by raw calls and by the binding,
-//! and through the listing program.
+//! and through the programs.
 //!
-//!     tusqirma-tests PROGRAM [--seed N] [--networks N] [--long]
+//!     tusqirma-tests LISTING ORDER [--seed N] [--networks N] [--long]
 //!
-//! PROGRAM is the listing program; the other counts follow the number of networks, which `--long` takes twenty times.
+//! LISTING and ORDER are the programs; the other counts follow the number of networks, which `--long` takes twenty times.
 //! Prints the seed; each part prints its smallest failed case; the last line is `N passed, M failed`.
 
 mod alterations;
@@ -14,6 +14,7 @@ mod engine;
 mod example;
 mod files;
 mod networks;
+mod order;
 mod program;
 mod random;
 mod reference;
@@ -33,8 +34,11 @@ fn main() {
         let place = args.iter().position(|a| a == name);
         place.map_or(other, |i| args[i + 1].parse().expect("a number"))
     };
-    let program = args.get(1).expect("the path of the listing program");
-    engine::LISTING.set(program.clone()).expect("set once");
+    let listing = args.get(1).expect("the path of the listing program");
+    engine::LISTING.set(listing.clone()).expect("set once");
+    let order = args.get(2).expect("the path of the order program");
+    let order = std::fs::canonicalize(order).expect("the order program");
+    order::ORDER.set(order).expect("set once");
     let long = args.iter().any(|a| a == "--long");
     let seed = option("--seed", 1);
     let count = option("--networks", 6000) as usize * if long { 20 } else { 1 };
@@ -54,6 +58,11 @@ fn main() {
     report.part("states made by hand", |r| states::compare(r, seed, count));
     let few = 20 + count / 100;
     report.part("short buffers", |r| short::compare(r, seed, few));
+    report.part("stated orders", order::stated);
+    report.part("files and outputs that fail", order::failures);
+    let some = (count / 10).max(500);
+    report.part("orders", |r| order::orders(r, seed, some));
+    report.part("chains of orders", |r| order::chains(r, seed, some));
     println!("{} passed, {} failed", report.passed, report.failed);
     std::process::exit((report.failed > 0) as i32);
 }

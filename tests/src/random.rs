@@ -55,6 +55,17 @@ pub fn small_network(rng: &mut Random) -> Vec<u8> {
     network_of(rng, n, m)
 }
 
+/// The file of a network, as long as any that loads.
+pub fn longest_network(rng: &mut Random) -> Vec<u8> {
+    let head = [0x4E, 0x49, 10, 40, 8, 0x4E, 0x58];
+    let gates = (0..40).flat_map(|_| {
+        let table = table(rng, 4).to_le_bytes();
+        [&[0x4E, 0x47, 4, 0, 1, 2, 3], &table[..]].concat()
+    });
+    let gates: Vec<u8> = gates.collect();
+    [&head[..], &[1; 128], &gates, &[0x4E, 0x4F, 49].repeat(8)].concat()
+}
+
 /// The file of a random network with n inputs and m gates.
 pub fn network_of(rng: &mut Random, n: usize, m: usize) -> Vec<u8> {
     let p = rng.within(1, 8);

@@ -5,6 +5,7 @@ mod calls;
 mod file;
 mod listing;
 mod network;
+mod order;
 mod sets;
 mod state;
 
@@ -12,4 +13,5 @@ pub use calls::call;
 pub use file::{load, write};
 pub use listing::listing;
 pub use network::Network;
+pub use order::{answer, pairs, USAGE};
 pub use state::*;

@@ -76,6 +76,22 @@ impl User<'_> {
         Call::Verdict { gates, tables }
     }
 
+    /// One to all gates with tables of one kind or of any that fit; at times with a pair at fault at a random place.
+    pub fn order(&mut self, kind: usize) -> Vec<(u64, u64)> {
+        let most = *self.rng.pick(&[2, 4, self.fresh.loaded.m()]);
+        let mut gates = self.some_gates(most);
+        if gates.is_empty() {
+            gates.push(self.gate);
+        }
+        let pair = |gate| (gate as u64, self.table_of(gate, kind));
+        let mut pairs: Vec<(u64, u64)> = gates.into_iter().map(pair).collect();
+        if self.rng.chance(8) {
+            let fault = self.fault(&pairs);
+            pairs.insert(self.rng.within(0, pairs.len()), fault);
+        }
+        pairs
+    }
+
     /// None to all gates, each once, in any order, with tables of one kind or of any that fit; now and then up to 200 pairs.
     fn handful(&mut self) -> Vec<(u64, u64)> {
         let (n, m) = (self.fresh.loaded.n, self.fresh.loaded.m());

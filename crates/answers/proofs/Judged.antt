@@ -1,8 +1,8 @@
 -- A list of pairs: the tests by numbers are those of the session's network, and what they come to is the verdict. Assumes nothing.
 use mathlib.Core.Path.{_≡_, refl, sym, ap, ap₂, _∙_}
-use mathlib.Core.Bool.{Bool, true, false, not, _&&_}
+use mathlib.Core.Bool.{Bool, true, false, not, cond, _&&_}
 use mathlib.Core.List.{List, [], _∷_}
-use Prim.Native.Nat.{ℕ, _+_, _-_, _^_, _≤_}
+use Prim.Native.Nat.{ℕ, suc, _+_, _-_, _^_, _≤_}
 use native.Mathlib.Omega.{arith}
 use lib.Dec.{leb, ltb}
 use lib.ListN.{length, getD}
@@ -17,15 +17,15 @@ use Rattle.network.specs.declared.Answer.the-variants.{Done, Refused}
 use Rattle.network.specs.Bounds.{mostGates}
 use Rattle.network.specs.Net.{isGate, Replacement, replaced}
 use Rattle.network.specs.Flat.{netWith, loadedNet, currentNet, storedAll}
-use Rattle.network.specs.Tests.{refuseIf, orElse, first, member}
+use Rattle.network.specs.Tests.{refuseIf, orElse, first, isDone, member}
 use Rattle.network.specs.State.{stateFault, stateTest}
-use Rattle.network.specs.Calls.{gateTest, fits, tableTest, harmTest, lengthsTest, pairs, pairTest, pairsTest, verdictOf}
+use Rattle.network.specs.Calls.{gateTest, fits, tableTest, harmTest, lengthsTest, pairs, pairTest, pairsTest, refusedAt, verdictOf}
 use Rattle.network.proofs.TestLaws.{alone}
 use Rattle.network.proofs.Valid.{state-i}
 use Rattle.network.proofs.Exchanges.{gate-e}
 use Rattle.network.proofs.Lists.{sound-e}
 use Rattle.network.proofs.Replaced.{replaced-all}
-use Rattle.replacements.specs.Pair.{GatesIn, pairBy, pairsBy}
+use Rattle.replacements.specs.Pair.{GatesIn, pairBy, pairsBy, refusedBy}
 use Rattle.replacements.proofs.Pairs.{pairs-in, stored-length}
 use Rattle.answers.proofs.Named.{gate-is, bounded, fits-is}
 
@@ -49,6 +49,13 @@ module _ (s : Session) where
   pairs-are : (named : List ℕ) (rs : List Replacement) → pairsBy (s .n) (s .m) (s .arity) named rs ≡ pairsTest (loadedNet s) named rs
   pairs-are named [] = refl
   pairs-are named (r ∷ rs) = ap₂ orElse (pair-is named r) (pairs-are (r .signal ∷ named) rs)
+
+  refused-by : (named : List ℕ) (rs : List Replacement) → refusedBy (s .n) (s .m) (s .arity) named rs ≡ refusedAt (loadedNet s) named rs
+  refused-by named [] = refl
+  refused-by named (r ∷ rs) = ap₂ (λ (a : Answer) (k : ℕ). cond (isDone a) (suc k) 0) (pair-is named r) (refused-by (r .signal ∷ named) rs)
+
+  pub refused-is : (n m : ℕ) → n ≡ s .n → m ≡ s .m → (rs : List Replacement) → refusedBy n m (s .arity) [] rs ≡ refusedAt (loadedNet s) [] rs
+  refused-is n m en em rs = rw (en, em) (refused-by [] rs)
 
   -- 11 and 12 are what is asked of a pair with none before it
   pub first-pair : (r : Replacement) (n m : ℕ) → n ≡ s .n → m ≡ s .m → stateFault s ≡ Done

@@ -4,6 +4,7 @@ ghost use mathlib.Core.Path.{_≡_};
 ghost use mathlib.Core.Bool.{not, _&&_};
 ghost use mathlib.Core.List.{[], _∷_};
 ghost use Prim.Native.Nat.{_^_, _≤_};
+ghost use lib.ListN.{length};
 ghost use Rattle.bits.specs.Range.{smallest};
 ghost use Rattle.bits.specs.Bit.{bit, differs};
 ghost use Rattle.network.specs.declared.Answer.the-variants.{Done};
@@ -11,7 +12,7 @@ ghost use Rattle.network.specs.Bounds.{mostFanins};
 ghost use Rattle.network.specs.Flat.{loadedNet};
 ghost use Rattle.network.specs.Tests.{first};
 ghost use Rattle.network.specs.State.{stateFault, stateTest};
-ghost use Rattle.network.specs.Calls.{gateTest, tableTest, entryFound, exchangeAnswer, verdictOf, tablesOf, patternSetsOf, countsOf, writtenOf};
+ghost use Rattle.network.specs.Calls.{gateTest, tableTest, entryFound, exchangeAnswer, pairs, refusedAt, verdictOf, tablesOf, patternSetsOf, countsOf, writtenOf};
 use network::Answer;
 use network::Counts;
 use network::Refusal;
@@ -86,13 +87,27 @@ pub fn verdict(s: Session, gates: &[u64], tables: &[u64]) -> Answer
     let n = network::place(s.n);
     let m = network::place(s.m);
     let arity = s.arity;
-    let a = replacements::pairs_test(n, m, &arity, gates, tables);
+    let t = replacements::pairs_test(n, m, &arity, gates, tables);
+    let a = t.answer;
     if let Answer::Refused(_) = a {
         return a;
     }
     let current = s.current;
     let all = replacements::replace_tables(n, current, gates, tables);
     verdict::harm(s, all)
+}
+
+// How many pairs stand before the first that a verdict refuses.
+pub fn refused_at(s: Session, gates: &[u64], tables: &[u64]) -> usize
+    requires { ⌜ stateFault s ≡ Done ⌝ }
+    requires { ⌜ length (now gates) ≡ length (now tables) ⌝ }
+    ensures { λ r. ⌜ r ≡ refusedAt (loadedNet s) [] (pairs (now (gates .entry)) (now (tables .entry))) ⌝ }
+{
+    let n = network::place(s.n);
+    let m = network::place(s.m);
+    let arity = s.arity;
+    let t = replacements::pairs_test(n, m, &arity, gates, tables);
+    t.passed
 }
 
 // The SDC, CDC, full and open table of a gate, or 11.

@@ -18,5 +18,5 @@ abbrev pub overwritten : List ℕ → List ℕ → List ℕ
 overwritten new buffer = new ++ drop (length new) buffer
 
 -- each case of a table holds: a case is a pair, what the definitions give and what is stated
-abbrev pub Hold : List (List ℕ × List ℕ) → Type 0
+abbrev pub Hold : {A : Type 0} → List (A × A) → Type 0
 Hold cases = map (λ c. c .0) cases ≡ map (λ c. c .1) cases

@@ -193,7 +193,7 @@ module _ (s : Session) (fresh : Fresh s) where
       ∙ answer-ext (loadedNet s) (heldClosed s (r .signal)) (closed (loadedNet s) (r .signal)) r (held-closed (r .signal))
 
   -- an accepted table fits, so that the session stays valid
-  stored-valid : (ts : List ℕ) (r : Replacement) → isGate (loadedNet s) (r .signal) ≡ true → fits (loadedNet s) r ≡ true → ValidTables s ts
+  pub stored-valid : (ts : List ℕ) (r : Replacement) → isGate (loadedNet s) (r .signal) ≡ true → fits (loadedNet s) r ≡ true → ValidTables s ts
       → ValidTables s (set ts (r .signal - s .n) (r .table))
   stored-valid ts r w f fine = record {
     sized = length-set ts (r .signal - s .n) (r .table) ∙ fine .sized;

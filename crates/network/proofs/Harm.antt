@@ -79,6 +79,11 @@ module _ (L M : Net) where
   pub harm-none : (said (harmTest L M) ≡ []) ↔ NoHarm L M (patterns L)
   harm-none = let d = said-done (harmTest L M) in (λ e. harm-done .0 (d .0 e), λ none. d .1 (harm-done .1 none))
 
+  pub harm-answer : (x i : ℕ) → FirstHarm L M x i → harmTest L M ≡ Refused (Harm x i)
+  harm-answer x i h =
+      ⊎-elim (λ n. clash (h .harm) (n .1 x i (h .pattern) (h .output)))
+      (λ f. let o = harm-one (f .3) h in rw (sym (o .0), sym (o .1)) (f .2)) harm-is
+
   pub harm-at : (x i : ℕ) → (said (harmTest L M) ≡ 14 ∷ x ∷ i ∷ []) ↔ FirstHarm L M x i
   harm-at x i = (
     λ e. ⊎-elim (λ n. absurd (omega (arith, ap length (sym e ∙ ap said (n .0)))))
@@ -86,6 +91,5 @@ module _ (L M : Net) where
         let p : f .0 ≡ x = cc s in
         let q : f .1 ≡ i = cc s in
         rw (sym p, sym q) (f .3)) harm-is,
-    λ h. ⊎-elim (λ n. clash (h .harm) (n .1 x i (h .pattern) (h .output)))
-        (λ f. let o = harm-one (f .3) h in rw (sym (o .0), sym (o .1)) (ap said (f .2))) harm-is,
+    λ h. ap said (harm-answer x i h),
   )

@@ -1,7 +1,7 @@
 -- Every call of 01 but load, as a function from all that it is given to all that it leaves: the answer, the session, each word or
 -- byte of a lent buffer. Each call's tests stand in 01's order: 10 before all else, then 9, or 15, and of each gate 11, 16 and 12, then
 -- 13 or 14. Assumes nothing.
-use mathlib.Core.Bool.{Bool, not, _&&_}
+use mathlib.Core.Bool.{Bool, not, cond, _&&_}
 use mathlib.Core.List.{List, [], _∷_, _++_}
 use Prim.Native.Nat.{ℕ, zero, suc, _+_, _-_, _^_}
 use lib.Dec.{eqb, ltb}
@@ -27,7 +27,7 @@ use Rattle.network.specs.Net.{Net, isGate, gate, entries, patternOrder, 
 use Rattle.network.specs.DontCares.{sdc, cdc, odc, full, harms}
 use Rattle.network.specs.Compatible.{compatible, compatibleCount, perGate}
 use Rattle.network.specs.Flat.{loadedNet, currentNet, wordsOf}
-use Rattle.network.specs.Tests.{refuseIf, orElse, first, member}
+use Rattle.network.specs.Tests.{refuseIf, orElse, first, isDone, member}
 use Rattle.network.specs.State.{stateTest}
 use Rattle.network.specs.Write.{bytesOf}
 
@@ -130,6 +130,11 @@ pairTest N named r = first (gateTest N (r .signal) ∷ refuseIf (member (r .sign
 abbrev pub pairsTest : Net → (named : List ℕ) → List Replacement → Answer
 pairsTest N named [] = Done
 pairsTest N named (r ∷ rs) = orElse (pairTest N named r) (pairsTest N (r .signal ∷ named) rs)
+
+-- how many pairs stand before the first that is refused
+abbrev pub refusedAt : Net → (named : List ℕ) → List Replacement → ℕ
+refusedAt N named [] = 0
+refusedAt N named (r ∷ rs) = cond (isDone (pairTest N named r)) (suc (refusedAt N (r .signal ∷ named) rs)) 0
 
 unfoldable pub verdictOf : Session → (gates tables : List ℕ) → Answer
 verdictOf s gs ts =

@@ -28,6 +28,11 @@ abbrev pub first : List Answer → Answer
 first [] = Done
 first (a ∷ rest) = orElse a (first rest)
 
+-- nothing is refused
+abbrev pub isDone : Answer → Bool
+isDone Done = true
+isDone (Refused r) = false
+
 -- ## 1 and 2
 
 -- 1: fewer than `size` bytes are left

@@ -38,6 +38,9 @@ pub const MOST_FILE_BYTES: usize = 5
     + MOST_GATES * MOST_GATE_BYTES
     + 3 * MOST_OUTPUTS;
 
+// The first bytes of a file that decide what it loads to: one more than any file has that loads.
+pub const DECIDING_BYTES: usize = MOST_FILE_BYTES + 1;
+
 // A session: the loaded and the current network in flat arrays, and the open tables that the load gave.
 // Gate g has its fan-ins at places GATE_PLACES * g and on; a table has entry t at bit t.
 // A one in the excluded set means that the pattern never comes.

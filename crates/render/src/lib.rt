@@ -12,7 +12,6 @@ ghost use Rattle.network.specs.Calls.{countsOf, withLength};
 ghost use Rattle.render.specs.Listing.{header, totals, refusedLine, listingOfNet, listingOf, listingInto, mostListingBytes};
 ghost use Rattle.render.specs.Text.{entriesIn, rowAt, rowsAt, setIn, textOf, Ready};
 use network::Answer;
-use network::MOST_FILE_BYTES;
 use network::MOST_GATES;
 use network::Refusal;
 use network::Session;
@@ -20,9 +19,6 @@ use network::WriteAnswer;
 
 // The most bytes of a listing: of the header, of a row for each gate, and of the totals, numbers taken with four digits.
 pub const MOST_LISTING_BYTES: usize = 26 + 25 * MOST_GATES + 16;
-
-// The first bytes of a file that decide its listing: one more than a file has that loads.
-pub const DECIDING_BYTES: usize = MOST_FILE_BYTES + 1;
 
 // What the listing of a network shows: n inputs, m gates, and of each gate three tables and the number of hidden patterns.
 pub struct Columns {

@@ -1,6 +1,6 @@
 -- The tests of pairs by numbers, and the turns of the loops over two lists. Assumes nothing.
-use mathlib.Core.Path.{_≡_, refl, sym, ap, ap₂, _∙_}
-use mathlib.Core.Bool.{Bool, not, _&&_, _||_}
+use mathlib.Core.Path.{_≡_, refl, sym, ap, ap₂, subst, _∙_}
+use mathlib.Core.Bool.{Bool, not, cond, _&&_, _||_}
 use mathlib.Core.List.{List, [], _∷_}
 use Prim.Native.Nat.{ℕ, zero, suc, _+_, _-_, _^_, _<_, _≤_}
 use native.Mathlib.Nat.{not-suc-le-zero}
@@ -19,11 +19,11 @@ use Rattle.network.specs.declared.Answer.{Answer}
 use Rattle.network.specs.declared.Answer.the-variants.{Done, Refused}
 use Rattle.network.specs.Net.{Replacement}
 use Rattle.network.specs.Flat.{storedAll}
-use Rattle.network.specs.Tests.{refuseIf, orElse, member}
+use Rattle.network.specs.Tests.{refuseIf, orElse, isDone, member}
 use Rattle.network.specs.Calls.{pairs}
 use Rattle.network.proofs.Earlier.{gate-in}
 use Rattle.network.proofs.TestLaws.{both, kept}
-use Rattle.replacements.specs.Pair.{GatesIn, pairBy, pairsBy}
+use Rattle.replacements.specs.Pair.{GatesIn, pairBy, pairsBy, refusedBy}
 
 -- ## What a pair that is not refused tells
 
@@ -54,25 +54,41 @@ pub pairs-at : (gs ts : List ℕ) (i : ℕ) → i < length gs → i < length ts
 pairs-at gs ts i h l = rw (add-one, drop-cons gs i 0 h, drop-cons ts i 0 l)
 
 module _ (n m : ℕ) (ks gs ts : List ℕ) where
-  -- what is left from pair i on, those before it naming these gates, gives the whole answer
+  -- what is left from pair i on, those before it naming these gates, gives the whole answer, and where it stops
   abbrev pub Left : List ℕ → ℕ → Type 0
-  Left named i = pairsBy n m ks named (pairs (drop i gs) (drop i ts)) ≡ pairsBy n m ks [] (pairs gs ts)
+  Left named i =
+      (pairsBy n m ks named (pairs (drop i gs) (drop i ts)) ≡ pairsBy n m ks [] (pairs gs ts))
+      × (i + refusedBy n m ks named (pairs (drop i gs) (drop i ts)) ≡ refusedBy n m ks [] (pairs gs ts))
+
+  abbrev Told : Answer → ℕ → Type 0
+  Told a i = (a ≡ pairsBy n m ks [] (pairs gs ts)) × (i ≡ refusedBy n m ks [] (pairs gs ts))
 
   module _ (named : List ℕ) (i : ℕ) (h : i < length gs) (l : i < length ts) (left : Left named i) (a : Answer)
       (e : a ≡ pairBy n m ks (member (getD gs i 0) named) (getD gs i 0) (getD ts i 0)) where
-    whole : orElse a (pairsBy n m ks (getD gs i 0 ∷ named) (pairs (drop (i + 1) gs) (drop (i + 1) ts))) ≡ pairsBy n m ks [] (pairs gs ts)
-    whole =
-        ap (λ (x : Answer). orElse x (pairsBy n m ks (getD gs i 0 ∷ named) (pairs (drop (i + 1) gs) (drop (i + 1) ts)))) e
-        ∙ sym (ap (pairsBy n m ks named) (pairs-at gs ts i h l)) ∙ left
+    abbrev rest : List Replacement
+    rest = pairs (drop (i + 1) gs) (drop (i + 1) ts)
 
-    pub pair-stops : {f : Refusal} → a ≡ Refused f → a ≡ pairsBy n m ks [] (pairs gs ts)
-    pair-stops d = d ∙ ap (λ (x : Answer). orElse x (pairsBy n m ks (getD gs i 0 ∷ named) (pairs (drop (i + 1) gs) (drop (i + 1) ts)))) (sym d) ∙ whole
+    -- where the pair at i is answered b
+    abbrev From : Answer → Type 0
+    From b =
+        (orElse b (pairsBy n m ks (getD gs i 0 ∷ named) rest) ≡ pairsBy n m ks [] (pairs gs ts))
+        × (i + cond (isDone b) (suc (refusedBy n m ks (getD gs i 0 ∷ named) rest)) 0 ≡ refusedBy n m ks [] (pairs gs ts))
+
+    whole : (b : Answer) → a ≡ b → From b
+    whole b d =
+        subst From (sym e ∙ d)
+        (sym (ap (pairsBy n m ks named) (pairs-at gs ts i h l)) ∙ left .0, ap (λ (rs : List Replacement). i + refusedBy n m ks named rs) (sym (pairs-at gs ts i h l)) ∙ left .1)
+
+    pub pair-stops : {f : Refusal} → a ≡ Refused f → Told a i
+    pair-stops {f} d = (d ∙ whole (Refused f) d .0, omega (arith, whole (Refused f) d .1))
 
     pub pair-next : a ≡ Done → Left (getD gs i 0 ∷ named) (i + 1)
-    pair-next d = ap (λ (x : Answer). orElse x (pairsBy n m ks (getD gs i 0 ∷ named) (pairs (drop (i + 1) gs) (drop (i + 1) ts)))) (sym d) ∙ whole
+    pair-next d = (whole Done d .0, omega (arith, whole Done d .1))
 
-  pub pairs-end : (named : List ℕ) (i : ℕ) → length gs ≤ i → Left named i → Done ≡ pairsBy n m ks [] (pairs gs ts)
-  pairs-end named i h left = ap (λ (l : List ℕ). pairsBy n m ks named (pairs l (drop i ts))) (sym (drop-of-length-le gs h)) ∙ left
+  pub pairs-end : (named : List ℕ) (i : ℕ) → length gs ≤ i → Left named i → Told Done i
+  pairs-end named i h left =
+      let q = drop-of-length-le gs h in
+      (ap (λ (l : List ℕ). pairsBy n m ks named (pairs l (drop i ts))) (sym q) ∙ left .0, omega (arith, ap (λ (l : List ℕ). i + refusedBy n m ks named (pairs l (drop i ts))) (sym q) ∙ left .1))
 
 pub stored-length : (n : ℕ) (rs : List Replacement) (ts : List ℕ) → length (storedAll n rs ts) ≡ length ts
 stored-length n [] ts = refl

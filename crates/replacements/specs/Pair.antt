@@ -1,7 +1,7 @@
 -- The tests of pairs by numbers, as loops over two lists meet them. Assumes nothing.
-use mathlib.Core.Bool.{Bool, not, _&&_}
+use mathlib.Core.Bool.{Bool, not, cond, _&&_}
 use mathlib.Core.List.{List, [], _∷_}
-use Prim.Native.Nat.{ℕ, _+_, _-_, _^_, _<_, _≤_}
+use Prim.Native.Nat.{ℕ, suc, _+_, _-_, _^_, _<_, _≤_}
 use lib.Dec.{leb, ltb}
 use lib.ListN.{length, getD}
 use Rattle.bits.specs.Bounds.{mostInputs}
@@ -10,7 +10,7 @@ use Rattle.network.specs.declared.Answer.{Answer}
 use Rattle.network.specs.declared.Answer.the-variants.{Done}
 use Rattle.network.specs.Bounds.{mostGates, mostFanins}
 use Rattle.network.specs.Net.{Replacement}
-use Rattle.network.specs.Tests.{refuseIf, orElse, first, member}
+use Rattle.network.specs.Tests.{refuseIf, orElse, first, isDone, member}
 
 -- 01's bounds on a network's counts and arities
 abbrev pub Bounded : (n m : ℕ) (arity : List ℕ) → Type 0
@@ -29,3 +29,8 @@ pairBy n m ks again g t =
 abbrev pub pairsBy : (n m : ℕ) (arity named : List ℕ) → List Replacement → Answer
 pairsBy n m ks named [] = Done
 pairsBy n m ks named (r ∷ rs) = orElse (pairBy n m ks (member (r .signal) named) (r .signal) (r .table)) (pairsBy n m ks (r .signal ∷ named) rs)
+
+-- how many pairs stand before the first that is refused
+abbrev pub refusedBy : (n m : ℕ) (arity named : List ℕ) → List Replacement → ℕ
+refusedBy n m ks named [] = 0
+refusedBy n m ks named (r ∷ rs) = cond (isDone (pairBy n m ks (member (r .signal) named) (r .signal) (r .table))) (suc (refusedBy n m ks (r .signal ∷ named) rs)) 0

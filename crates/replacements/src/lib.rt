@@ -11,7 +11,7 @@ ghost use Rattle.bits.specs.Bit.{bit};
 ghost use Rattle.network.specs.Bounds.{mostGates};
 ghost use Rattle.network.specs.Flat.{storedAll};
 ghost use Rattle.network.specs.Calls.{pairs};
-ghost use Rattle.replacements.specs.Pair.{Bounded, GatesIn, pairBy, pairsBy};
+ghost use Rattle.replacements.specs.Pair.{Bounded, GatesIn, pairBy, pairsBy, refusedBy};
 use network::Answer;
 use network::MOST_GATES;
 use network::Refusal;
@@ -53,17 +53,23 @@ pub fn pair_test(
     Answer::Done
 }
 
-// The pairs of two lists of one length, in order.
+// The pairs in order: what the first that is refused is answered, or Done, and how many stand before it.
+pub struct Tested {
+    pub answer: Answer,
+    pub passed: usize,
+}
+
+// The pairs of two lists of one length.
 pub fn pairs_test(
     n: usize,
     m: usize,
     arity: &[u8; MOST_GATES],
     gates: &[u64],
     tables: &[u64],
-) -> Answer
+) -> Tested
     requires { ⌜ Bounded n m (now arity) ⌝ }
     requires { ⌜ length (now gates) ≡ length (now tables) ⌝ }
-    ensures { λ r. ⌜ r ≡ pairsBy n m (now (arity .entry)) [] (pairs (now (gates .entry)) (now (tables .entry))) ⌝ }
+    ensures { λ r. ⌜ (r .answer ≡ pairsBy n m (now (arity .entry)) [] (pairs (now (gates .entry)) (now (tables .entry)))) × (r .passed ≡ refusedBy n m (now (arity .entry)) [] (pairs (now (gates .entry)) (now (tables .entry)))) ⌝ }
 {
     let mut seen: u64 = 0;
     let mut i: usize = 0;
@@ -71,12 +77,18 @@ pub fn pairs_test(
         let gate = gates[i] as usize;
         let a = pair_test(n, m, arity, seen, gate, tables[i]);
         if let Answer::Refused(_) = a {
-            return a;
+            return Tested {
+                answer: a,
+                passed: i,
+            };
         }
         seen = seen | bits::power(gate as u64);
         i += 1;
     }
-    Answer::Done
+    Tested {
+        answer: Answer::Done,
+        passed: i,
+    }
 }
 
 // The tables of the gates behind n inputs, with those of the pairs stored.

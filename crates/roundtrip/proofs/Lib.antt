@@ -6,3 +6,4 @@ pub mod RoundTrip
 pub mod Prefix
 pub mod Lengths
 pub mod Truncation
+pub mod WrittenBytes

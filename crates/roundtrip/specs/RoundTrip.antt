@@ -4,6 +4,7 @@ use mathlib.Core.Path.{_≡_}
 use mathlib.Core.List.{List}
 use Prim.Native.Nat.{ℕ, _+_, _≤_, _<_}
 use lib.ListN.{length, take}
+use Rattle.bits.specs.Lists.{Bytes}
 use Rattle.network.specs.declared.Session.{Session}
 use Rattle.network.specs.declared.Loaded.{Loaded}
 use Rattle.network.specs.declared.Answer.the-variants.{Done}
@@ -29,7 +30,11 @@ RoundTrip = (s : Session) → Shaped s → stateFault s ≡ Done → Returns rea
 abbrev pub WrittenLength : Type 0
 WrittenLength = (s : Session) → stateFault s ≡ Done → length (bytesOf s) ≤ mostFileBytes
 
--- nor is one that loads
+-- and it is bytes
+abbrev pub WrittenBytes : Type 0
+WrittenBytes = (s : Session) → stateFault s ≡ Done → Bytes (bytesOf s)
+
+-- none that loads is longer
 abbrev pub LoadedLength : Type 0
 LoadedLength = (bytes : List ℕ) (s : Session) → loadOf bytes ≡ loadDone s → length bytes ≤ mostFileBytes
 

@@ -1,52 +1,59 @@
 -- The digits of a number, by how many there are, and how far a piece reaches. Assumes nothing.
 use mathlib.Core.Path.{_≡_, refl}
 use mathlib.Core.List.{List, [], _∷_}
-use Prim.Native.Nat.{ℕ, _/_, _%_, _≤_, _<_}
+use Prim.Native.Nat.{ℕ, _/_, _%_, _+_, _≤_, _<_}
 use native.Mathlib.Omega.{arith}
 use lib.Dec.{ltb}
-use lib.ListN.{length}
+use lib.ListN.{length, set, length-append}
 use borrow.Author.Tests.{lt-ltb, le-ltb}
 use Rattle.bits.proofs.Ranges.{by-cases}
 use Rattle.buffer.specs.Laid.{Laid}
-use Rattle.buffer.proofs.Laying.{Within, laid-within}
+use Rattle.buffer.proofs.Laying.{Within, laid-append, laid-within, stored}
 use Rattle.text.specs.Numbers.{digit, hex, decimal}
 use Rattle.text.specs.Fields.{number, field}
 
-module _ (x after : ℕ) where
-  pub one : (a : ℕ) → x < 10 → a ≡ digit x → number x after ≡ a ∷ after ∷ []
-  unfolding number decimal
+module _ (x : ℕ) where
+  pub one : (a : ℕ) → x < 10 → a ≡ digit x → decimal x ≡ a ∷ []
+  unfolding decimal
   one a h p = rw (p, lt-ltb x 10 h)
 
-  pub two : (a b : ℕ) → 10 ≤ x → x < 100 → a ≡ digit (x / 10) → b ≡ digit (x % 10) → number x after ≡ a ∷ b ∷ after ∷ []
-  unfolding number decimal
+  pub two : (a b : ℕ) → 10 ≤ x → x < 100 → a ≡ digit (x / 10) → b ≡ digit (x % 10) → decimal x ≡ a ∷ b ∷ []
+  unfolding decimal
   two a b l h p q = rw (p, q, le-ltb x 10 l, lt-ltb x 100 h)
 
-  pub three : (a b c : ℕ) → 10 ≤ x → 100 ≤ x → x < 1000 → a ≡ digit (x / 100) → b ≡ digit (x / 10 % 10) → c ≡ digit (x % 10)
-      → number x after ≡ a ∷ b ∷ c ∷ after ∷ []
-  unfolding number decimal
+  pub three : (a b c : ℕ) → 10 ≤ x → 100 ≤ x → x < 1000 → a ≡ digit (x / 100) → b ≡ digit (x / 10 % 10) → c ≡ digit (x % 10) → decimal x ≡ a ∷ b ∷ c ∷ []
+  unfolding decimal
   three a b c l k h p q r = rw (p, q, r, le-ltb x 10 l, le-ltb x 100 k, lt-ltb x 1000 h)
 
   pub four : (a b c d : ℕ) → 10 ≤ x → 100 ≤ x → 1000 ≤ x
-      → a ≡ digit (x / 1000) → b ≡ digit (x / 100 % 10) → c ≡ digit (x / 10 % 10) → d ≡ digit (x % 10)
-      → number x after ≡ a ∷ b ∷ c ∷ d ∷ after ∷ []
-  unfolding number decimal
+      → a ≡ digit (x / 1000) → b ≡ digit (x / 100 % 10) → c ≡ digit (x / 10 % 10) → d ≡ digit (x % 10) → decimal x ≡ a ∷ b ∷ c ∷ d ∷ []
+  unfolding decimal
   four a b c d l k j p q r s = rw (p, q, r, s, le-ltb x 10 l, le-ltb x 100 k, le-ltb x 1000 j)
 
-  pub length-number : length (number x after) ≤ 5
-  unfolding number decimal
-  length-number =
+  pub hex-digits : (a b c d : ℕ) → a ≡ digit (x / 4096 % 16) → b ≡ digit (x / 256 % 16) → c ≡ digit (x / 16 % 16) → d ≡ digit (x % 16) → hex x ≡ a ∷ b ∷ c ∷ d ∷ []
+  unfolding hex
+  hex-digits a b c d p q r s = rw (p, q, r, s)
+
+  -- ## How long they are
+
+  pub length-decimal : length (decimal x) ≤ 4
+  unfolding decimal
+  length-decimal =
       by-cases (ltb x 10) (λ a. rw a (omega arith))
       (λ a. by-cases (ltb x 100) (λ b. rw (a, b) (omega arith))
       (λ b. by-cases (ltb x 1000) (λ c. rw (a, b, c) (omega arith)) (λ c. rw (a, b, c) (omega arith))))
 
-pub field-digits : (x a b c d : ℕ) → a ≡ digit (x / 4096 % 16) → b ≡ digit (x / 256 % 16) → c ≡ digit (x / 16 % 16) → d ≡ digit (x % 16)
-    → field x ≡ a ∷ b ∷ c ∷ d ∷ 0x20 ∷ []
-unfolding field hex
-field-digits x a b c d p q r s = rw (p, q, r, s)
+  pub length-hex : length (hex x) ≡ 4
+  unfolding hex
+  length-hex = refl
+
+pub length-number : (x after : ℕ) → length (number x after) ≤ 5
+unfolding number
+length-number x after = let n = length-append (decimal x) (after ∷ []) in let k = length-decimal x in omega arith
 
 pub length-field : (x : ℕ) → length (field x) ≡ 5
-unfolding field hex
-length-field x = refl
+unfolding field
+length-field x = let n = length-append (hex x) (0x20 ∷ []) in let k = length-hex x in omega arith
 
 -- ## How far a piece reaches
 
@@ -55,3 +62,17 @@ number-within x after l = laid-within 5 (length-number x after) l
 
 pub field-within : {b b₁ : List ℕ} {at r : ℕ} (x : ℕ) → Laid b at (field x) b₁ r → Within b b₁ at r 5
 field-within x l = laid-within 5 (let n = length-field x in omega arith) l
+
+-- ## The byte behind a number
+
+-- four digits leave a place for it
+pub place-behind : {b b₁ xs : List ℕ} {at e : ℕ} → length xs ≤ 4 → Laid b at xs b₁ e → at + 5 ≤ length b → e < length b₁
+place-behind h l r = let w = laid-within 4 h l in let p = w .behind in let q = w .long in omega arith
+
+pub number-laid : {b b₁ : List ℕ} {at e : ℕ} (x after : ℕ) → Laid b at (decimal x) b₁ e → Laid b at (number x after) (set b₁ e after) (e + 1)
+unfolding number
+number-laid {b} {b₁} {at} {e} x after l = laid-append l (stored b₁ e after after refl)
+
+pub field-laid : {b b₁ : List ℕ} {at e : ℕ} (x : ℕ) → Laid b at (hex x) b₁ e → Laid b at (field x) (set b₁ e 0x20) (e + 1)
+unfolding field
+field-laid {b} {b₁} {at} {e} x l = laid-append l (stored b₁ e 0x20 0x20 refl)

@@ -1,2 +1,4 @@
+pub mod Parts
+pub mod Places
 pub mod Digits
 pub mod Cases

@@ -1,4 +1,5 @@
 pub mod Ascii
 pub mod Numbers
 pub mod Fields
+pub mod Words
 pub mod Cases

@@ -1,9 +1,9 @@
-// Words: numbers in decimal and hexadecimal, put into a lent buffer. Quoted text needs no function of its own: `buffer::copy` of `b".."` meets `ascii` of the same words.
+// Words: numbers in decimal and hexadecimal, put into a lent buffer; a text parted into words, as definitions. Quoted text needs no function of its own: `buffer::copy` of `b".."` meets `ascii` of the same words.
 ghost use mathlib.Core.Path.{_≡_};
 ghost use Prim.Native.Nat.{_+_, _<_, _≤_};
 ghost use lib.ListN.{length};
-ghost use Rattle.buffer.specs.Laid.{Laid};
-ghost use Rattle.text.specs.Numbers.{digit};
+ghost use Rattle.buffer.specs.Laid.{Room, Laid};
+ghost use Rattle.text.specs.Numbers.{digit, hex, decimal};
 ghost use Rattle.text.specs.Fields.{number, field};
 
 fn digit(d: u64) -> u8
@@ -17,23 +17,23 @@ fn digit(d: u64) -> u8
     0x57 + b
 }
 
-// Both functions below put from place at on and return the place behind what they put.
+// Each function below puts from place at on and returns the place behind what it put.
 
-// A number in decimal, and the byte behind it.
-pub fn put_number(buf: &mut [u8], at: usize, x: u64, after: u8) -> usize
-    requires { ⌜ (x < 10000) × (at + 5 ≤ length (now buf)) ⌝ }
-    ensures { λ r. ⌜ Laid (now (buf .entry)) at (number x after) (now (buf .exit)) r ⌝ }
+// A number in decimal.
+pub fn put_decimal(buf: &mut [u8], at: usize, x: u64) -> usize
+    requires { ⌜ (x < 10000) × Room (now buf) at (decimal x) ⌝ }
+    ensures { λ r. ⌜ Laid (now (buf .entry)) at (decimal x) (now (buf .exit)) r ⌝ }
 {
     if x < 10 {
-        let t = [digit(x), after];
+        let t = [digit(x)];
         return buffer::copy(buf, at, &t);
     }
     if x < 100 {
-        let t = [digit(x / 10), digit(x % 10), after];
+        let t = [digit(x / 10), digit(x % 10)];
         return buffer::copy(buf, at, &t);
     }
     if x < 1000 {
-        let t = [digit(x / 100), digit(x / 10 % 10), digit(x % 10), after];
+        let t = [digit(x / 100), digit(x / 10 % 10), digit(x % 10)];
         return buffer::copy(buf, at, &t);
     }
     let t = [
@@ -41,22 +41,40 @@ pub fn put_number(buf: &mut [u8], at: usize, x: u64, after: u8) -> usize
         digit(x / 100 % 10),
         digit(x / 10 % 10),
         digit(x % 10),
-        after,
     ];
     buffer::copy(buf, at, &t)
 }
 
-// Four hexadecimal digits, and a space.
-pub fn put_field(buf: &mut [u8], at: usize, x: u64) -> usize
-    requires { ⌜ at + 5 ≤ length (now buf) ⌝ }
-    ensures { λ r. ⌜ Laid (now (buf .entry)) at (field x) (now (buf .exit)) r ⌝ }
+// Four hexadecimal digits.
+pub fn put_hex(buf: &mut [u8], at: usize, x: u64) -> usize
+    requires { ⌜ Room (now buf) at (hex x) ⌝ }
+    ensures { λ r. ⌜ Laid (now (buf .entry)) at (hex x) (now (buf .exit)) r ⌝ }
 {
     let t = [
         digit(x / 4096 % 16),
         digit(x / 256 % 16),
         digit(x / 16 % 16),
         digit(x % 16),
-        b' ',
     ];
     buffer::copy(buf, at, &t)
+}
+
+// A number in decimal, and the byte behind it.
+pub fn put_number(buf: &mut [u8], at: usize, x: u64, after: u8) -> usize
+    requires { ⌜ (x < 10000) × (at + 5 ≤ length (now buf)) ⌝ }
+    ensures { λ r. ⌜ Laid (now (buf .entry)) at (number x after) (now (buf .exit)) r ⌝ }
+{
+    let e = put_decimal(buf, at, x);
+    buf[e] = after;
+    e + 1
+}
+
+// A number in hexadecimal, and a space.
+pub fn put_field(buf: &mut [u8], at: usize, x: u64) -> usize
+    requires { ⌜ at + 5 ≤ length (now buf) ⌝ }
+    ensures { λ r. ⌜ Laid (now (buf .entry)) at (field x) (now (buf .exit)) r ⌝ }
+{
+    let e = put_hex(buf, at, x);
+    buf[e] = b' ';
+    e + 1
 }

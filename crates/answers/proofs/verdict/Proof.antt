@@ -35,7 +35,7 @@ returns-2 c =
     let ins = gates .before in
     let o = ins .before in
     let t = o .before .before .before in
-    verdict-refused (t .args .s) (t .pre) (t .args .gates .now) (t .args .tables .now) (o .if1 .left) _ _ (ins .place .ensures) (gates .place2 .ensures) (p .pairs-test .ensures) (c .enum-told .given .1)
+    verdict-refused (t .args .s) (t .pre) (t .args .gates .now) (t .args .tables .now) (o .if1 .left) _ _ (ins .place .ensures) (gates .place2 .ensures) (p .pairs-test .ensures .0) (c .enum-told .given .1)
 
 enum-told-2 : tie.Need-enum-told-2
 enum-told-2 c = search needs
@@ -49,7 +49,7 @@ replace-tables-requires c κs =
     let o = ins .before in
     let t = o .before .before .before in (
       o .if1 .left,
-      gates-placed (t .args .s) (t .pre) (t .args .gates .now) (t .args .tables .now) (o .if1 .left) _ _ (ins .place .ensures) (gates .place2 .ensures) (p .pairs-test .ensures) (k .enum-told2 .given .1),
+      gates-placed (t .args .s) (t .pre) (t .args .gates .now) (t .args .tables .now) (o .if1 .left) _ _ (ins .place .ensures) (gates .place2 .ensures) (p .pairs-test .ensures .0) (k .enum-told2 .given .1),
     )
 
 harm-requires : tie.Need-harm-requires
@@ -66,7 +66,7 @@ returns-3 c =
     let t = o .before .before .before in
     let s = t .args .s in
     c .harm .ensures
-    ∙ verdict-judged s (t .pre) (t .args .gates .now) (t .args .tables .now) (o .if1 .left) _ _ (ins .place .ensures) (gates .place2 .ensures) (p .pairs-test .ensures) (k .enum-told2 .given .1)
+    ∙ verdict-judged s (t .pre) (t .args .gates .now) (t .args .tables .now) (o .if1 .left) _ _ (ins .place .ensures) (gates .place2 .ensures) (p .pairs-test .ensures .0) (k .enum-told2 .given .1)
     _ (w .replace-tables .ensures .0) (w .replace-tables .ensures .1)
 
 pub verdict-spec : {M : Type 1} → statement M

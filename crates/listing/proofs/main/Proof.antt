@@ -1,33 +1,27 @@
 -- `main`: the bytes that are listed lie in the buffer. Assumes nothing.
-use mathlib.Core.Path.{_≡_, sym}
-use Prim.Native.Nat.{ℕ, _≤_}
+use mathlib.Core.Path.{sym}
 use lib.Seq.{length-take-le}
 use borrow.Author.Needs.{needs}
-use Rattle.listing.specs.declared.Input.{Input}
-use Rattle.listing.specs.declared.Input.the-variants.{Bytes}
-use Rattle.listing.specs.Input.{Within}
+use Rattle.streams.proofs.Told.{bytes-within}
 use Rattle.listing.proofs.main.Statement.{statement}
 use Rattle.listing.proofs.main.Tie as tie
 
-bytes-within : {r : Input} {n most : ℕ} → Within r most → r ≡ Bytes n → n ≤ most
-bytes-within h e = rw e at h
+slice-aggregate-read-all : tie.Need-slice-aggregate-read-all
+slice-aggregate-read-all c = search needs
 
-slice-aggregate-read-input : tie.Need-slice-aggregate-read-input
-slice-aggregate-read-input c = search needs
-
-read-input-requires : tie.Need-read-input-requires
-read-input-requires c κs = search needs
+read-all-requires : tie.Need-read-all-requires
+read-all-requires c κs = search needs
 
 enum-known-input : tie.Need-enum-known-input
 enum-known-input c = search needs
 
 array-share-prefix-file : tie.Need-array-share-prefix-file
-array-share-prefix-file c = bytes-within (c .before .before .before .before .read-input .ensures) (c .before .input .given .1)
+array-share-prefix-file c = bytes-within (c .before .before .before .before .read-all .ensures) (c .before .input .given .1)
 
 slice-aggregate-print-listing : tie.Need-slice-aggregate-print-listing
 slice-aggregate-print-listing c =
     let k = c .before .before in
-    sym (length-take-le _ _ (bytes-within (k .before .before .before .read-input .ensures) (k .input .given .1)))
+    sym (length-take-le _ _ (bytes-within (k .before .before .before .read-all .ensures) (k .input .given .1)))
 
 print-listing-requires : tie.Need-print-listing-requires
 print-listing-requires c κs = search needs
@@ -51,8 +45,8 @@ pub main-spec : {M : Type 1} → statement M
 main-spec =
     tie.close
     (tie.spec
-    slice-aggregate-read-input
-    read-input-requires
+    slice-aggregate-read-all
+    read-all-requires
     enum-known-input
     array-share-prefix-file
     slice-aggregate-print-listing

@@ -22,7 +22,7 @@ abbrev μ-loop : tie.MeasureT-loop
 μ-loop n m arity gates tables seen₀ i₀ seen i = length gates - i
 
 loop-holds : tie.Need-loop-holds Inv-loop μ-loop
-loop-holds c = (omega arith, ([], (λ k. bit-zero k), refl))
+loop-holds c = (omega arith, ([], (λ k. bit-zero k), (refl, omega arith)))
 
 mul-gate : tie.Need-mul-gate Inv-loop μ-loop
 mul-gate c = search needs

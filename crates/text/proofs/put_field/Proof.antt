@@ -1,46 +1,35 @@
--- `put_field`: four digits and a space. Assumes nothing.
+-- `put_field`: the digits, and the byte behind them. Assumes nothing.
+use native.Mathlib.Omega.{arith}
 use borrow.Author.Needs.{needs}
-use Rattle.text.proofs.Digits.{field-digits}
+use Rattle.text.proofs.Digits.{length-hex, place-behind, field-laid}
 use Rattle.text.proofs.put_field.Statement.{statement}
 use Rattle.text.proofs.put_field.Tie as tie
 
-digit-requires : tie.Need-digit-requires
-digit-requires c κs = search needs
+put-hex-requires : tie.Need-put-hex-requires
+put-hex-requires c κs =
+    let s = c .before .before in
+    let n = length-hex (s .args .x) in
+    let h = s .pre in
+    omega arith
 
-digit-requires-2 : tie.Need-digit-requires-2
-digit-requires-2 c κs = search needs
+slice-write-buf : tie.Need-slice-write-buf
+slice-write-buf c =
+    let d = c .before .before in
+    let s = d .before .before .before in
+    place-behind (let n = length-hex (s .args .x) in omega arith) (d .put-hex .ensures) (s .pre)
 
-digit-requires-3 : tie.Need-digit-requires-3
-digit-requires-3 c κs = search needs
-
-digit-requires-4 : tie.Need-digit-requires-4
-digit-requires-4 c κs = search needs
-
-slice-aggregate-copy : tie.Need-slice-aggregate-copy
-slice-aggregate-copy c = search needs
-
-copy-requires : tie.Need-copy-requires
-copy-requires c κs = search needs
+add-result : tie.Need-add-result
+add-result c = let h = slice-write-buf c in search needs
 
 same-length : tie.Need-same-length
 same-length c = search needs
 
 returns : tie.Need-returns
 returns c =
-    let k = c .before .before in
-    let d = k .before .before .before in
-    let x = d .before .before .before .before .before .args .x in
-    rw (field-digits x _ _ _ _ (d .before .before .before .digit .ensures) (d .before .before .digit2 .ensures) (d .before .digit3 .ensures) (d .digit4 .ensures)) (k .copy .ensures)
+    let d = c .before .before in
+    let s = d .before .before .before in
+    field-laid (s .args .x) (d .put-hex .ensures)
 
 pub put-field-spec : {M : Type 1} → statement M
 put-field-spec =
-    tie.close
-    (tie.spec
-    digit-requires
-    digit-requires-2
-    digit-requires-3
-    digit-requires-4
-    slice-aggregate-copy
-    copy-requires
-    same-length
-    returns)
+    tie.close (tie.spec put-hex-requires slice-write-buf add-result same-length returns)

@@ -1,16 +1,16 @@
--- `read_input`: never more bytes than the buffer has; each turn that goes on fills some. Assumes nothing.
+-- `read_all`: never more bytes than the buffer has; each turn that goes on fills some. Assumes nothing.
 use mathlib.Core.Path.{_≡_}
 use Prim.Native.Nat.{_-_, _≤_}
 use lib.ListN.{length}
 use borrow.Author.Needs.{needs}
-use Rattle.listing.proofs.read_input.Statement.{statement}
-use Rattle.listing.proofs.read_input.Tie as tie
+use Rattle.streams.proofs.read_all.Statement.{statement}
+use Rattle.streams.proofs.read_all.Tie as tie
 
 abbrev Inv-loop : tie.InvT-loop
-Inv-loop file₀ n₀ file n = (length file ≡ length file₀) × (n ≤ length file)
+Inv-loop fd file₀ n₀ file n = (length file ≡ length file₀) × (n ≤ length file)
 
 abbrev μ-loop : tie.MeasureT-loop
-μ-loop file₀ n₀ file n = length file - n
+μ-loop fd file₀ n₀ file n = length file - n
 
 loop-holds : tie.Need-loop-holds Inv-loop μ-loop
 loop-holds c = search needs
@@ -66,8 +66,8 @@ same-length-3 c = search needs
 returns-3 : tie.Need-returns-3 Inv-loop μ-loop
 returns-3 c = search needs
 
-pub read-input-spec : {M : Type 1} → statement M
-read-input-spec =
+pub read-all-spec : {M : Type 1} → statement M
+read-all-spec =
     tie.close
     (tie.spec
     Inv-loop

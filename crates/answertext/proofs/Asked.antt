@@ -1,0 +1,55 @@
+-- What was judged can be printed, and is the answer. Assumes nothing.
+use mathlib.Core.Path.{_≡_, sym, ap, subst, _∙_}
+use mathlib.Core.Bool.{true}
+use mathlib.Core.List.{List}
+use Prim.Native.Nat.{ℕ, _≤_}
+use native.Mathlib.Omega.{arith}
+use lib.ListN.{length}
+use Rattle.buffer.specs.Laid.{Room, Laid}
+use Rattle.buffer.proofs.Laying.{laid-length}
+use Rattle.network.specs.declared.Session.{Session}
+use Rattle.network.specs.Load.{loadOf}
+use Rattle.ordertext.specs.declared.Order.{Order}
+use Rattle.ordertext.specs.Order.{mostPairs, Pair}
+use Rattle.ordertext.specs.Reads.{countIn, pairsGiven, Reads}
+use Rattle.desk.specs.Reply.{replyOf, grants}
+use Rattle.desk.specs.Answer.{answerFor, answerText}
+use Rattle.desk.specs.Promises.{mostAnswerBytes}
+use Rattle.judging.specs.declared.Judged.{Judged}
+use Rattle.judging.specs.Judged.{replacementsIn, judgedOf, Placeable}
+use Rattle.judging.proofs.Judging.{given}
+use Rattle.answertext.specs.declared.Answered.{Answered}
+use Rattle.answertext.specs.Prints.{Prints}
+use Rattle.answertext.specs.Answers.{Asks, Answers}
+use Rattle.answertext.proofs.Printed.{given-few}
+use Rattle.answertext.proofs.Bounds.{prints-of, room-of}
+
+module _ (file text : List ℕ) (o : Order) (a : Asks text o) (j : Judged) (e : j ≡ judgedOf file (replacementsIn o)) where
+  abbrev ps : List Pair
+  ps = pairsGiven text o
+
+  reply-is : j .reply ≡ replyOf file ps
+  reply-is = ap (λ (j : Judged). j .reply) e ∙ given file text o (a .reads) .reply
+
+  session-is : j .session ≡ loadOf file .session
+  unfolding judgedOf
+  session-is = ap (λ (j : Judged). j .session) e
+
+  pub ready : (buffer : List ℕ) → mostAnswerBytes ≤ length buffer
+      → Reads text o × Prints (j .session) ps (j .reply) × Room buffer 0 (answerFor (j .reply) (j .session) ps)
+  ready buffer h = (a .reads, rw (reply-is, session-is) (prints-of file ps), rw (reply-is, session-is) (room-of file text buffer o (a .reads) (a .short) (a .some) h))
+
+  pub answered : {before after : List ℕ} {n : ℕ} → mostAnswerBytes ≤ length before → Laid before 0 (answerFor (j .reply) (j .session) ps) after n
+      → Answers file ps before after (record { size = n; reply = j .reply; session = j .session })
+  unfolding answerText
+  answered {before} h l =
+      let long = laid-length l in
+      let room = ready before h .2 in
+      let size = l .behind in
+      record { laid = rw (reply-is, session-is) at l; within = omega arith; reply = reply-is; session = session-is }
+
+-- a granted order's board can be written
+pub grantable : (file text : List ℕ) (o : Order) {before after : List ℕ} {r : Answered} → Asks text o → Answers file (pairsGiven text o) before after r
+    → grants (r .reply) ≡ true → (countIn (o .case) ≤ mostPairs) × Placeable (r .session) (replacementsIn o)
+grantable file text o {before} {after} {r} a w g =
+    (given-few text o (a .reads), subst (λ (s : Session). Placeable s (replacementsIn o)) (sym (w .session)) (given file text o (a .reads) .placeable (ap grants (sym (w .reply)) ∙ g)))

@@ -1,0 +1,253 @@
+// Programs: the text of the answer to an order.
+ghost use mathlib.Core.Path.{_≡_};
+ghost use mathlib.Core.List.{[], _++_};
+ghost use Prim.Native.Nat.{_-_, _<_, _≤_};
+ghost use lib.ListN.{length, getD};
+ghost use Rattle.bits.specs.Bounds.{mostInputs};
+ghost use Rattle.network.specs.Refusals.{valuesOf};
+ghost use Rattle.buffer.specs.Laid.{Room, Laid};
+ghost use Rattle.ordertext.specs.Order.{signalNamed};
+ghost use Rattle.ordertext.specs.Reads.{pairsGiven, Reads};
+ghost use Rattle.desk.specs.Promises.{mostAnswerBytes};
+ghost use Rattle.desk.specs.Answer.{lineOn, linesOn, harmLine, reasons, fileLine, pairRefusedLine, openText, pairLine, pairLines, answerFor};
+ghost use Rattle.answertext.specs.Prints.{entryOf, Shown, AllShown, Prints};
+ghost use Rattle.answertext.specs.Answers.{Asks, Answers};
+use desk::Reply;
+use network::Answer;
+use network::Refusal;
+use network::Session;
+use ordertext::Order;
+
+// Each function that puts bytes does so from place at on, or from the start, and returns the place behind them.
+
+// ## First lines
+
+// Input i, where its bit is one.
+fn put_line_on(buf: &mut [u8], at: usize, x: usize, i: usize) -> usize
+    requires { ⌜ (i < mostInputs) × Room (now buf) at (lineOn x i) ⌝ }
+    ensures { λ r. ⌜ Laid (now (buf .entry)) at (lineOn x i) (now (buf .exit)) r ⌝ }
+{
+    if (x >> i) % 2 == 1 {
+        let a = buffer::copy(buf, at, b" ");
+        return text::put_decimal(buf, a, i as u64);
+    }
+    at
+}
+
+// The inputs whose bit is one, or none.
+fn put_lines_on(buf: &mut [u8], at: usize, x: usize, n: usize) -> usize
+    requires { ⌜ (n ≤ mostInputs) × Room (now buf) at (linesOn x n) ⌝ }
+    ensures { λ r. ⌜ Laid (now (buf .entry)) at (linesOn x n) (now (buf .exit)) r ⌝ }
+{
+    if x == 0 {
+        return buffer::copy(buf, at, b" none");
+    }
+    let mut a = at;
+    let mut i: usize = 0;
+    while i < n {
+        a = put_line_on(buf, a, x, i);
+        i += 1;
+    }
+    a
+}
+
+fn put_harm(buf: &mut [u8], n: usize, x: usize, i: usize) -> usize
+    requires { ⌜ (n ≤ mostInputs) × (x < 10000) × (i < 10000) × Room (now buf) 0 (harmLine n x i) ⌝ }
+    ensures { λ r. ⌜ Laid (now (buf .entry)) 0 (harmLine n x i) (now (buf .exit)) r ⌝ }
+{
+    let a = buffer::copy(buf, 0, b"no: output ");
+    let b = text::put_decimal(buf, a, i as u64);
+    let c = buffer::copy(buf, b, b" changes at pattern ");
+    let d = text::put_decimal(buf, c, x as u64);
+    let e = buffer::copy(buf, d, b", lines on:");
+    let f = put_lines_on(buf, e, x, n);
+    buffer::copy(buf, f, b"\n")
+}
+
+// Why a file is refused, by the refusal's number.
+fn put_reason(buf: &mut [u8], at: usize, k: u64) -> usize
+    requires { ⌜ (1 ≤ k) × Room (now buf) at (getD reasons (k - 1) []) ⌝ }
+    ensures { λ r. ⌜ Laid (now (buf .entry)) at (getD reasons (k - 1) []) (now (buf .exit)) r ⌝ }
+{
+    match k {
+        1 => buffer::copy(buf, at, b"the file ends too soon"),
+        2 => buffer::copy(buf, at, b"no network file, or a record out of place"),
+        3 => buffer::copy(buf, at, b"a count is out of bounds"),
+        4 => buffer::copy(buf, at, b"a fan-in is no earlier signal"),
+        5 => buffer::copy(buf, at, b"a gate lists a fan-in twice"),
+        6 => buffer::copy(buf, at, b"a bit is set past the end of a table or set"),
+        7 => buffer::copy(buf, at, b"an output is no signal"),
+        8 => buffer::copy(buf, at, b"bytes follow the last record"),
+        _ => at,
+    }
+}
+
+fn put_file_refused(buf: &mut [u8], r: Refusal) -> usize
+    requires { ⌜ Room (now buf) 0 (fileLine r) ⌝ }
+    ensures { λ e. ⌜ Laid (now (buf .entry)) 0 (fileLine r) (now (buf .exit)) e ⌝ }
+{
+    let k = network::number_of(r);
+    let a = buffer::copy(buf, 0, b"refused ");
+    let b = text::put_decimal(buf, a, k);
+    let c = buffer::copy(buf, b, b": ");
+    let d = put_reason(buf, c, k);
+    buffer::copy(buf, d, b"\n")
+}
+
+// A name between two texts.
+fn put_around(buf: &mut [u8], front: &[u8], name: &[u8], back: &[u8]) -> usize
+    requires { ⌜ Room (now buf) 0 (now front ++ now name ++ now back) ⌝ }
+    ensures { λ e. ⌜ Laid (now (buf .entry)) 0 (now (front .entry) ++ now (name .entry) ++ now (back .entry)) (now (buf .exit)) e ⌝ }
+{
+    let a = buffer::copy(buf, 0, front);
+    let b = buffer::copy(buf, a, name);
+    buffer::copy(buf, b, back)
+}
+
+fn put_pair_refused(buf: &mut [u8], r: Refusal, name: &[u8]) -> usize
+    requires { ⌜ Room (now buf) 0 (pairRefusedLine r (now name)) ⌝ }
+    ensures { λ e. ⌜ Laid (now (buf .entry)) 0 (pairRefusedLine r (now (name .entry))) (now (buf .exit)) e ⌝ }
+{
+    let k = network::number_of(r);
+    if k == 11 {
+        return put_around(buf, b"refused 11: ", name, b" is no gate\n");
+    }
+    if k == 12 {
+        return put_around(
+            buf,
+            b"refused 12: the table of gate ",
+            name,
+            b" is too wide\n",
+        );
+    }
+    put_around(buf, b"refused 16: gate ", name, b" is named twice\n")
+}
+
+// ## A line for each pair
+
+// The value that a refusal names first, or 0.
+fn first_value(r: Refusal) -> usize
+    ensures { λ v. ⌜ v ≡ getD (valuesOf r) 0 0 ⌝ }
+{
+    let t = network::told(r);
+    if t.1 == 0 {
+        return 0;
+    }
+    let values = t.2;
+    values[0] as usize
+}
+
+// What would be answered to an exchange.
+fn put_standing(buf: &mut [u8], at: usize, a: Answer) -> usize
+    requires { ⌜ (entryOf a < 10000) × Room (now buf) at (openText a) ⌝ }
+    ensures { λ r. ⌜ Laid (now (buf .entry)) at (openText a) (now (buf .exit)) r ⌝ }
+{
+    if let Answer::Refused(r) = a {
+        let t = first_value(r);
+        let b = buffer::copy(buf, at, b"entry ");
+        let e = text::put_decimal(buf, b, t as u64);
+        return buffer::copy(buf, e, b" is closed");
+    }
+    buffer::copy(buf, at, b"open")
+}
+
+// The line of one pair.
+fn put_pair(buf: &mut [u8], at: usize, s: Session, name: &[u8], gate: u64, table: u64) -> usize
+    requires { ⌜ (gate ≡ signalNamed (now name)) × Shown s (record { signal = gate; table = table }) × Room (now buf) at (pairLine s (record { gate = now name; table = table })) ⌝ }
+    ensures { λ r. ⌜ Laid (now (buf .entry)) at (pairLine s (record { gate = now (name .entry); table = table })) (now (buf .exit)) r ⌝ }
+{
+    let signal = gate as usize;
+    let n = s.n as usize;
+    let g = signal - n;
+    let old = s.loaded[g];
+    let x = engine::exchange(s, signal, table);
+    let y = x.answer;
+    let a = buffer::copy(buf, at, b"gate ");
+    let b = buffer::copy(buf, a, name);
+    let c = buffer::copy(buf, b, b" from ");
+    let d = text::put_hex(buf, c, old);
+    let e = buffer::copy(buf, d, b" to ");
+    let f = text::put_hex(buf, e, table);
+    let h = buffer::copy(buf, f, b": ");
+    let i = put_standing(buf, h, y);
+    buffer::copy(buf, i, b"\n")
+}
+
+fn put_pairs(buf: &mut [u8], at: usize, s: Session, text: &[u8], o: Order) -> usize
+    requires { ⌜ Reads (now text) o × AllShown s (pairsGiven (now text) o) × Room (now buf) at (pairLines s (pairsGiven (now text) o)) ⌝ }
+    ensures { λ r. ⌜ Laid (now (buf .entry)) at (pairLines s (pairsGiven (now (text .entry)) o)) (now (buf .exit)) r ⌝ }
+{
+    let case = o.case;
+    let n = ordertext::count(case);
+    let mut a = at;
+    let mut i: usize = 0;
+    while i < n {
+        let b = o.starts[i];
+        let e = o.ends[i];
+        let gate = o.gates[i];
+        let table = o.tables[i];
+        a = put_pair(buf, a, s, &text[b..e], gate, table);
+        i += 1;
+    }
+    a
+}
+
+// ## The answer
+
+// By the reply.
+fn put_answer(buf: &mut [u8], reply: Reply, s: Session, text: &[u8], o: Order) -> usize
+    requires { ⌜ Reads (now text) o × Prints s (pairsGiven (now text) o) reply × Room (now buf) 0 (answerFor reply s (pairsGiven (now text) o)) ⌝ }
+    ensures { λ r. ⌜ Laid (now (buf .entry)) 0 (answerFor reply s (pairsGiven (now (text .entry)) o)) (now (buf .exit)) r ⌝ }
+{
+    match reply {
+        Reply::Open => {
+            let a = buffer::copy(
+                buf,
+                0,
+                b"yes: open, also together with any other order open on this board\n",
+            );
+            put_pairs(buf, a, s, text, o)
+        }
+        Reply::Alone => {
+            let a = buffer::copy(
+                buf,
+                0,
+                b"yes: alone, with no other order; ask the next on the changed board\n",
+            );
+            put_pairs(buf, a, s, text, o)
+        }
+        Reply::Harmful { pattern, output } => {
+            let a = put_harm(buf, s.n as usize, pattern, output);
+            put_pairs(buf, a, s, text, o)
+        }
+        Reply::PairRefused { refusal, pair } => {
+            let b = o.starts[pair];
+            let e = o.ends[pair];
+            put_pair_refused(buf, refusal, &text[b..e])
+        }
+        Reply::FileRefused(r) => put_file_refused(buf, r),
+    }
+}
+
+// An answer: its length, the reply, and the session as loaded.
+pub struct Answered {
+    pub size: usize,
+    pub reply: Reply,
+    pub session: Session,
+}
+
+// The answer to the order of a text on the board of a file, at the start of a buffer that has room for any.
+pub fn answer(buf: &mut [u8], file: &[u8], text: &[u8], o: Order) -> Answered
+    requires { ⌜ Asks (now text) o × (mostAnswerBytes ≤ length (now buf)) ⌝ }
+    ensures { λ r. ⌜ Answers (now (file .entry)) (pairsGiven (now (text .entry)) o) (now (buf .entry)) (now (buf .exit)) r ⌝ }
+{
+    let j = judging::judge(file, o);
+    let reply = j.reply;
+    let s = j.session;
+    let n = put_answer(buf, reply, s, text, o);
+    Answered {
+        size: n,
+        reply: reply,
+        session: s,
+    }
+}

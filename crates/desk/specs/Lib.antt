@@ -1,0 +1,4 @@
+pub mod Reply
+pub mod Answer
+pub mod Promises
+pub mod Cases
