@@ -12,6 +12,7 @@ use Rattle.network.specs.Load.{loadOf}
 use Rattle.ordertext.specs.declared.Order.{Order}
 use Rattle.ordertext.specs.Order.{mostPairs, Pair}
 use Rattle.ordertext.specs.Reads.{countIn, pairsGiven, Reads}
+use Rattle.ordertext.proofs.Given.{given-few}
 use Rattle.desk.specs.Reply.{replyOf, grants}
 use Rattle.desk.specs.Answer.{answerFor, answerText}
 use Rattle.desk.specs.Promises.{mostAnswerBytes}
@@ -21,7 +22,6 @@ use Rattle.judging.proofs.Judging.{given}
 use Rattle.answertext.specs.declared.Answered.{Answered}
 use Rattle.answertext.specs.Prints.{Prints}
 use Rattle.answertext.specs.Answers.{Asks, Answers}
-use Rattle.answertext.proofs.Printed.{given-few}
 use Rattle.answertext.proofs.Bounds.{prints-of, room-of}
 
 module _ (file text : List ℕ) (o : Order) (a : Asks text o) (j : Judged) (e : j ≡ judgedOf file (replacementsIn o)) where

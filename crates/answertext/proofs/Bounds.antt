@@ -27,6 +27,7 @@ use Rattle.ordertext.specs.declared.Case.the-variants as case
 use Rattle.ordertext.specs.declared.Order.{Order}
 use Rattle.ordertext.specs.Order.{Pair, replacementOf, signalOf, ordered, orderOf}
 use Rattle.ordertext.specs.Reads.{pairsIn, countIn, parsedIn, pairsGiven}
+use Rattle.ordertext.proofs.Given.{given-length}
 use Rattle.desk.specs.declared.Reply.{Reply}
 use Rattle.desk.specs.declared.Reply.the-variants.{Open, Alone, Harmful, PairRefused, FileRefused}
 use Rattle.network.specs.Calls.{pairsTest, refusedAt}
@@ -39,7 +40,6 @@ use Rattle.network.proofs.Lists.{sound-e}
 use Rattle.desk.proofs.Replies.{reply-loaded, answer-loaded}
 use Rattle.desk.proofs.Comes.{OfPair, pairs-only, pair-reply, comes}
 use Rattle.desk.proofs.Lengths.{gate-entries, outputs-few, answer-length}
-use Rattle.answertext.proofs.Printed.{given-length}
 
 entry-small : (N : Net) (r : Replacement) (a : Answer) → (isGate N (r .signal) ≡ true → entries N (r .signal) ≤ 16) → Cause N r a → entryOf a < 10000
 entry-small N r a f (no-gate p) = omega arith

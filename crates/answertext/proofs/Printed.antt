@@ -9,7 +9,6 @@ use lib.ListN.{length, getD, take, drop, length-append, drop-of-length-le}
 use lib.Seq.{drop-cons, getD-take}
 use borrow.Author.Tests.{eq-eqb, ne-eqb}
 use Rattle.bits.specs.Bit.{bit}
-use Rattle.bits.proofs.Ranges.{length-places, places-at, map-places}
 use Rattle.network.specs.declared.Session.{Session}
 use Rattle.network.specs.declared.Refusal.{Refusal}
 use Rattle.network.specs.declared.Exchanged.{Exchanged}
@@ -24,11 +23,10 @@ use Rattle.buffer.proofs.Laying.{laid-append, laid-length, pending-start, pendi
 use Rattle.text.specs.Numbers.{hex, decimal}
 use Rattle.text.specs.Ascii.{ascii}
 use Rattle.text.specs.Words.{Text}
-use Rattle.ordertext.specs.declared.Case.{Case}
-use Rattle.ordertext.specs.declared.Case.the-variants as case
 use Rattle.ordertext.specs.declared.Order.{Order}
-use Rattle.ordertext.specs.Order.{mostPairs, Pair, signalNamed, signalOf, replacementOf}
-use Rattle.ordertext.specs.Reads.{pairAt, countIn, CaseFits, Reads, pairsGiven}
+use Rattle.ordertext.specs.Order.{Pair, signalNamed, replacementOf}
+use Rattle.ordertext.specs.Reads.{pairIn, countIn, Reads, pairsGiven}
+use Rattle.ordertext.proofs.Given.{given-length, given-at, given-signal}
 use Rattle.desk.specs.declared.Reply.{Reply}
 use Rattle.desk.specs.declared.Reply.the-variants.{Open, Alone, Harmful}
 use Rattle.desk.specs.Answer.{openLine, aloneLine, lineOn, onLines, linesOn, harmLine, refusedLine, reasons, fileLine, pairRefusedLine, openText, pairLine, pairLines, noPair, answerFor}
@@ -37,17 +35,11 @@ use Rattle.answertext.proofs.Pieces.{joined}
 
 -- ## Pieces in a row
 
-three : (a b c : Text) → a ++ b ++ c ≡ joined (a ∷ b ∷ c ∷ [])
+pub two : (a b : Text) → a ++ b ≡ joined (a ∷ b ∷ [])
+two a b = simp append-nil
+
+pub three : (a b c : Text) → a ++ b ++ c ≡ joined (a ∷ b ∷ c ∷ [])
 three a b c = simp (append-assoc, append-nil)
-
-five : (a b c d e : Text) → a ++ b ++ c ++ d ++ e ≡ joined (a ∷ b ∷ c ∷ d ∷ e ∷ [])
-five a b c d e = simp (append-assoc, append-nil)
-
-seven : (a b c d e f g : Text) → a ++ b ++ c ++ d ++ e ++ f ++ g ≡ joined (a ∷ b ∷ c ∷ d ∷ e ∷ f ∷ g ∷ [])
-seven a b c d e f g = simp (append-assoc, append-nil)
-
-nine : (a b c d e f g h i : Text) → a ++ b ++ c ++ d ++ e ++ f ++ g ++ h ++ i ≡ joined (a ∷ b ∷ c ∷ d ∷ e ∷ f ∷ g ∷ h ∷ i ∷ [])
-nine a b c d e f g h i = simp (append-assoc, append-nil)
 
 -- nothing to lay
 pub nothing-laid : (b : Text) (at : ℕ) (text : Text) → text ≡ [] → Laid b at text b at
@@ -55,12 +47,9 @@ nothing-laid b at text e = pending-done (pending-start b text at) e
 
 -- ## The inputs that are on
 
-abbrev pub onPieces : (i : ℕ) → List Text
-onPieces i = ascii " " ∷ decimal i ∷ []
-
-pub on-some : (x i : ℕ) → x / 2 ^ i % 2 ≡ 1 → lineOn x i ≡ joined (onPieces i)
+pub on-some : (x i : ℕ) → x / 2 ^ i % 2 ≡ 1 → lineOn x i ≡ ascii " " ++ decimal i
 unfolding lineOn bit
-on-some x i e = rw (eq-eqb (x / 2 ^ i % 2) 1 e, append-nil (decimal i))
+on-some x i e = rw (eq-eqb (x / 2 ^ i % 2) 1 e)
 
 pub on-none : (x i : ℕ) → (x / 2 ^ i % 2 ≡ 1 → ⊥) → lineOn x i ≡ []
 unfolding lineOn bit
@@ -100,11 +89,14 @@ module _ {b₀ b : Text} {at a : ℕ} (x n i : ℕ) (l : Laid b₀ at (onLines x
 -- ## First lines
 
 abbrev pub harmPieces : (n x i : ℕ) → List Text
-harmPieces n x i = ascii "no: output " ∷ decimal i ∷ ascii " changes at pattern " ∷ decimal x ∷ ascii ", lines on:" ∷ linesOn x n ∷ ascii "\n" ∷ []
+harmPieces n x i = (ascii "no: output " ++ decimal i) ∷ (ascii " changes at pattern " ++ decimal x) ∷ ascii ", lines on:" ∷ linesOn x n ∷ ascii "\n" ∷ []
 
 pub harm-pieces : (n x i : ℕ) → harmLine n x i ≡ joined (harmPieces n x i)
 unfolding harmLine
-harm-pieces n x i = seven (ascii "no: output ") (decimal i) (ascii " changes at pattern ") (decimal x) (ascii ", lines on:") (linesOn x n) (ascii "\n")
+harm-pieces n x i = row (ascii "no: output ") (decimal i) (ascii " changes at pattern ") (decimal x) (ascii ", lines on:") (linesOn x n) (ascii "\n")
+  where
+    row : (a b c d e f g : Text) → a ++ b ++ c ++ d ++ e ++ f ++ g ≡ joined ((a ++ b) ∷ (c ++ d) ∷ e ∷ f ∷ g ∷ [])
+    row a b c d e f g = simp (append-assoc, append-nil)
 
 -- a reason by its number
 module _ (b : Text) (at k j : ℕ) (e : k ≡ j) where
@@ -129,14 +121,14 @@ pub number-least : (r : Refusal) (k : ℕ) → k ≡ numberOf r → 1 ≤ k
 number-least r k e = let h = told-by (λ t. 1 ≤ t .0) (λ n l. l) (λ t. omega arith) (λ x i. omega arith) r in omega arith
 
 abbrev pub filePieces : (k : ℕ) → List Text
-filePieces k = ascii "refused " ∷ decimal k ∷ ascii ": " ∷ getD reasons (k - 1) [] ∷ ascii "\n" ∷ []
+filePieces k = (ascii "refused " ++ decimal k) ∷ ascii ": " ∷ getD reasons (k - 1) [] ∷ ascii "\n" ∷ []
 
 pub file-pieces : (r : Refusal) (k : ℕ) → k ≡ numberOf r → fileLine r ≡ joined (filePieces k)
 unfolding fileLine refusedLine
-file-pieces r k e = rw (← e) (five (ascii "refused ") (decimal k) (ascii ": ") (getD reasons (k - 1) []) (ascii "\n"))
-
-pub around-pieces : (front name back : Text) → front ++ name ++ back ≡ joined (front ∷ name ∷ back ∷ [])
-around-pieces front name back = three front name back
+file-pieces r k e = rw (← e) (row (ascii "refused ") (decimal k) (ascii ": ") (getD reasons (k - 1) []) (ascii "\n"))
+  where
+    row : (a b c d e : Text) → a ++ b ++ c ++ d ++ e ≡ joined ((a ++ b) ∷ c ∷ d ∷ e ∷ [])
+    row a b c d e = simp (append-assoc, append-nil)
 
 module _ (r : Refusal) (name : Text) (k : ℕ) (e : k ≡ numberOf r) where
   pub no-gate-line : k ≡ 11 → pairRefusedLine r name ≡ ascii "refused 11: " ++ name ++ ascii " is no gate\n"
@@ -166,16 +158,19 @@ module _ (k : ℕ) (vs : List ℕ) {told : List ℕ} (e : take k vs ≡ told) wh
   some-value n = sym (getD-take k vs 0 0 (omega arith)) ∙ ap (λ (l : List ℕ). getD l 0 0) e
 
 abbrev pub closedPieces : (t : ℕ) → List Text
-closedPieces t = ascii "entry " ∷ decimal t ∷ ascii " is closed" ∷ []
+closedPieces t = (ascii ": entry " ++ decimal t) ∷ ascii " is closed\n" ∷ []
 
 pub closed-pieces : (a : Answer) (r : Refusal) (t : ℕ) → a ≡ Refused r → t ≡ getD (valuesOf r) 0 0 → openText a ≡ joined (closedPieces t)
-closed-pieces a r t e h = rw (e, h) (three (ascii "entry ") (decimal (getD (valuesOf r) 0 0)) (ascii " is closed"))
+closed-pieces a r t e h = rw (e, h) (two (ascii ": entry " ++ decimal (getD (valuesOf r) 0 0)) (ascii " is closed\n"))
 
 pub entry-few : (a : Answer) (r : Refusal) (t : ℕ) → a ≡ Refused r → t ≡ getD (valuesOf r) 0 0 → entryOf a < 10000 → t < 10000
 entry-few a r t e h l = rw h (rw e at l)
 
 abbrev pub pairPieces : (name : Text) (old table : ℕ) → Answer → List Text
-pairPieces name old table a = ascii "gate " ∷ name ∷ ascii " from " ∷ hex old ∷ ascii " to " ∷ hex table ∷ ascii ": " ∷ openText a ∷ ascii "\n" ∷ []
+pairPieces name old table a = (ascii "gate " ++ name ++ ascii " from ") ∷ hex old ∷ ascii " to " ∷ hex table ∷ openText a ∷ []
+
+pair-row : (a b c d e f g : Text) → a ++ b ++ c ++ d ++ e ++ f ++ g ≡ joined ((a ++ b ++ c) ∷ d ∷ e ∷ f ∷ g ∷ [])
+pair-row a b c d e f g = simp (append-assoc, append-nil)
 
 answer-in : (a : Answer) (s : Session) (r : Replacement) → exchanged a s r .answer ≡ a
 answer-in Done s r = refl
@@ -193,8 +188,8 @@ module _ (s : Session) (name : Text) (gate table : ℕ) (x : Exchanged) (g : gat
   unfolding pairLine
   pair-pieces =
       rw (answer-of, g)
-      (nine (ascii "gate ") name (ascii " from ") (hex (getD (s .loaded) (signalNamed name - s .n) 0)) (ascii " to ") (hex table) (ascii ": ")
-      (openText (exchangeAnswer s (record { signal = signalNamed name; table = table }))) (ascii "\n"))
+      (pair-row (ascii "gate ") name (ascii " from ") (hex (getD (s .loaded) (signalNamed name - s .n) 0)) (ascii " to ") (hex table)
+      (openText (exchangeAnswer s (record { signal = signalNamed name; table = table }))))
 
   pub pair-entry : Shown s (record { signal = gate; table = table }) → entryOf (x .answer) < 10000
   pair-entry h = rw answer-of (h .entry)
@@ -208,59 +203,22 @@ module _ (s : Session) (ps : List Pair) (i : ℕ) where
   pub pairs-done : length ps ≤ i → pairLines s (drop i ps) ≡ []
   pairs-done h = rw (drop-of-length-le ps {i = i} h)
 
-module _ (text : Text) (o : Order) (r : Reads text o) where
-  abbrev n : ℕ
-  n = countIn (o .case)
+module _ (text : Text) (o : Order) (r : Reads text o) (s : Session) (i : ℕ) (h : i < countIn (o .case)) where
+  pub given-shown : AllShown s (pairsGiven text o) → Shown s (record { signal = getD (o .gates) i 0; table = getD (o .tables) i 0 })
+  given-shown a =
+      let l = given-length text o r in
+      rw (given-signal text o r i h) (subst (λ (p : Pair). Shown s (replacementOf p)) (given-at text o r noPair i h) (a i (omega arith)))
 
-  abbrev at : ℕ → Pair
-  at = pairAt text (o .tables) (o .starts) (o .ends)
-
-  -- the arrays have a place for each pair
-  pub given-few : n ≤ mostPairs
-  given-few = go (o .case) (r .fits)
-    where
-      go : (c : Case) → CaseFits text c → countIn c ≤ mostPairs
-      go (case.Pairs k) f = f .1
-      go (case.NoPair a e) f = omega arith
-      go case.Blank f = omega arith
-
-  pub given-length : length (pairsGiven text o) ≡ n
-  given-length = length-places n at
-
-  pub given-at : (i : ℕ) → i < n → getD (pairsGiven text o) i noPair ≡ at i
-  given-at i h = places-at noPair n at i h
-
-  pub given-gate : (i : ℕ) → i < n → getD (o .gates) i 0 ≡ signalOf (at i)
-  given-gate i h =
-      sym (getD-take n (o .gates) i 0 h) ∙ ap (λ (l : List ℕ). getD l i 0) (r .signals ∙ map-places signalOf n at) ∙ places-at 0 n (λ j. signalOf (at j)) i h
-
-  pub given-shown : (s : Session) → AllShown s (pairsGiven text o) → (i : ℕ) → i < n → Shown s (record { signal = getD (o .gates) i 0; table = getD (o .tables) i 0 })
-  given-shown s a i h =
-      let l = given-length in
-      rw (given-gate i h) (subst (λ (p : Pair). Shown s (replacementOf p)) (given-at i h) (a i (omega arith)))
-
-  pub given-line : (s : Session) (i : ℕ) → i < n → pairLines s (drop i (pairsGiven text o)) ≡ pairLine s (at i) ++ pairLines s (drop (i + 1) (pairsGiven text o))
-  given-line s i h =
-      let l = given-length in
-      pairs-next s (pairsGiven text o) i (omega arith) ∙ ap (λ (p : Pair). pairLine s p ++ pairLines s (drop (i + 1) (pairsGiven text o))) (given-at i h)
+  pub given-line : pairLines s (drop i (pairsGiven text o)) ≡ pairLine s (pairIn text o i) ++ pairLines s (drop (i + 1) (pairsGiven text o))
+  given-line =
+      let l = given-length text o r in
+      pairs-next s (pairsGiven text o) i (omega arith) ∙ ap (λ (p : Pair). pairLine s p ++ pairLines s (drop (i + 1) (pairsGiven text o))) (given-at text o r noPair i h)
 
 -- ## The answer by its reply
 
-module _ (reply : Reply) (s : Session) (ps : List Pair) where
-  pub open-pieces : reply ≡ Open → answerFor reply s ps ≡ joined (ascii "yes: open, also together with any other order open on this board\n" ∷ pairLines s ps ∷ [])
-  unfolding openLine
-  open-pieces e = rw (e, append-nil (pairLines s ps))
+-- what a reply says of the bounds
+pub prints : (reply : Reply) (s : Session) (ps : List Pair) (q : Reply) → reply ≡ q → Prints s ps reply → Prints s ps q
+prints reply s ps q e h = subst (Prints s ps) e h
 
-  pub alone-pieces : reply ≡ Alone → answerFor reply s ps ≡ joined (ascii "yes: alone, with no other order; ask the next on the changed board\n" ∷ pairLines s ps ∷ [])
-  unfolding aloneLine
-  alone-pieces e = rw (e, append-nil (pairLines s ps))
-
-  pub harmful-pieces : (x i : ℕ) → reply ≡ Harmful x i → answerFor reply s ps ≡ joined (harmLine (s .n) x i ∷ pairLines s ps ∷ [])
-  harmful-pieces x i e = rw (e, append-nil (pairLines s ps))
-
-  -- what a reply says of the bounds
-  pub prints : (q : Reply) → reply ≡ q → Prints s ps reply → Prints s ps q
-  prints q e h = subst (Prints s ps) e h
-
-  pub answer-is : (q : Reply) → reply ≡ q → answerFor reply s ps ≡ answerFor q s ps
-  answer-is q e = ap (λ (x : Reply). answerFor x s ps) e
+pub answer-is : (reply : Reply) (s : Session) (ps : List Pair) (q : Reply) → reply ≡ q → answerFor reply s ps ≡ answerFor q s ps
+answer-is reply s ps q e = ap (λ (x : Reply). answerFor x s ps) e

@@ -6,6 +6,7 @@ ghost use lib.ListN.{length, getD};
 ghost use Rattle.bits.specs.Bounds.{mostInputs};
 ghost use Rattle.network.specs.Refusals.{valuesOf};
 ghost use Rattle.buffer.specs.Laid.{Room, Laid};
+ghost use Rattle.text.specs.Numbers.{decimal};
 ghost use Rattle.ordertext.specs.Order.{signalNamed};
 ghost use Rattle.ordertext.specs.Reads.{pairsGiven, Reads};
 ghost use Rattle.desk.specs.Promises.{mostAnswerBytes};
@@ -20,6 +21,27 @@ use ordertext::Order;
 
 // Each function that puts bytes does so from place at on, or from the start, and returns the place behind them.
 
+// ## Pieces
+
+// A text, and a number in decimal.
+fn put_numbered(buf: &mut [u8], at: usize, front: &[u8], x: u64) -> usize
+    requires { ⌜ (x < 10000) × Room (now buf) at (now front ++ decimal x) ⌝ }
+    ensures { λ r. ⌜ Laid (now (buf .entry)) at (now (front .entry) ++ decimal x) (now (buf .exit)) r ⌝ }
+{
+    let a = buffer::copy(buf, at, front);
+    text::put_decimal(buf, a, x)
+}
+
+// A name between two texts.
+fn put_around(buf: &mut [u8], at: usize, front: &[u8], name: &[u8], back: &[u8]) -> usize
+    requires { ⌜ Room (now buf) at (now front ++ now name ++ now back) ⌝ }
+    ensures { λ r. ⌜ Laid (now (buf .entry)) at (now (front .entry) ++ now (name .entry) ++ now (back .entry)) (now (buf .exit)) r ⌝ }
+{
+    let a = buffer::copy(buf, at, front);
+    let b = buffer::copy(buf, a, name);
+    buffer::copy(buf, b, back)
+}
+
 // ## First lines
 
 // Input i, where its bit is one.
@@ -28,8 +50,7 @@ fn put_line_on(buf: &mut [u8], at: usize, x: usize, i: usize) -> usize
     ensures { λ r. ⌜ Laid (now (buf .entry)) at (lineOn x i) (now (buf .exit)) r ⌝ }
 {
     if (x >> i) % 2 == 1 {
-        let a = buffer::copy(buf, at, b" ");
-        return text::put_decimal(buf, a, i as u64);
+        return put_numbered(buf, at, b" ", i as u64);
     }
     at
 }
@@ -55,13 +76,11 @@ fn put_harm(buf: &mut [u8], n: usize, x: usize, i: usize) -> usize
     requires { ⌜ (n ≤ mostInputs) × (x < 10000) × (i < 10000) × Room (now buf) 0 (harmLine n x i) ⌝ }
     ensures { λ r. ⌜ Laid (now (buf .entry)) 0 (harmLine n x i) (now (buf .exit)) r ⌝ }
 {
-    let a = buffer::copy(buf, 0, b"no: output ");
-    let b = text::put_decimal(buf, a, i as u64);
-    let c = buffer::copy(buf, b, b" changes at pattern ");
-    let d = text::put_decimal(buf, c, x as u64);
-    let e = buffer::copy(buf, d, b", lines on:");
-    let f = put_lines_on(buf, e, x, n);
-    buffer::copy(buf, f, b"\n")
+    let a = put_numbered(buf, 0, b"no: output ", i as u64);
+    let b = put_numbered(buf, a, b" changes at pattern ", x as u64);
+    let c = buffer::copy(buf, b, b", lines on:");
+    let d = put_lines_on(buf, c, x, n);
+    buffer::copy(buf, d, b"\n")
 }
 
 // Why a file is refused, by the refusal's number.
@@ -87,21 +106,10 @@ fn put_file_refused(buf: &mut [u8], r: Refusal) -> usize
     ensures { λ e. ⌜ Laid (now (buf .entry)) 0 (fileLine r) (now (buf .exit)) e ⌝ }
 {
     let k = network::number_of(r);
-    let a = buffer::copy(buf, 0, b"refused ");
-    let b = text::put_decimal(buf, a, k);
-    let c = buffer::copy(buf, b, b": ");
-    let d = put_reason(buf, c, k);
-    buffer::copy(buf, d, b"\n")
-}
-
-// A name between two texts.
-fn put_around(buf: &mut [u8], front: &[u8], name: &[u8], back: &[u8]) -> usize
-    requires { ⌜ Room (now buf) 0 (now front ++ now name ++ now back) ⌝ }
-    ensures { λ e. ⌜ Laid (now (buf .entry)) 0 (now (front .entry) ++ now (name .entry) ++ now (back .entry)) (now (buf .exit)) e ⌝ }
-{
-    let a = buffer::copy(buf, 0, front);
-    let b = buffer::copy(buf, a, name);
-    buffer::copy(buf, b, back)
+    let a = put_numbered(buf, 0, b"refused ", k);
+    let b = buffer::copy(buf, a, b": ");
+    let c = put_reason(buf, b, k);
+    buffer::copy(buf, c, b"\n")
 }
 
 fn put_pair_refused(buf: &mut [u8], r: Refusal, name: &[u8]) -> usize
@@ -110,23 +118,24 @@ fn put_pair_refused(buf: &mut [u8], r: Refusal, name: &[u8]) -> usize
 {
     let k = network::number_of(r);
     if k == 11 {
-        return put_around(buf, b"refused 11: ", name, b" is no gate\n");
+        return put_around(buf, 0, b"refused 11: ", name, b" is no gate\n");
     }
     if k == 12 {
         return put_around(
             buf,
+            0,
             b"refused 12: the table of gate ",
             name,
             b" is too wide\n",
         );
     }
-    put_around(buf, b"refused 16: gate ", name, b" is named twice\n")
+    put_around(buf, 0, b"refused 16: gate ", name, b" is named twice\n")
 }
 
 // ## A line for each pair
 
 // The value that a refusal names first, or 0.
-fn first_value(r: Refusal) -> usize
+fn first_value(r: Refusal) -> u64
     ensures { λ v. ⌜ v ≡ getD (valuesOf r) 0 0 ⌝ }
 {
     let t = network::told(r);
@@ -134,21 +143,20 @@ fn first_value(r: Refusal) -> usize
         return 0;
     }
     let values = t.2;
-    values[0] as usize
+    values[0]
 }
 
-// What would be answered to an exchange.
-fn put_standing(buf: &mut [u8], at: usize, a: Answer) -> usize
+// What would be answered to an exchange, at the end of a pair's line.
+fn put_open(buf: &mut [u8], at: usize, a: Answer) -> usize
     requires { ⌜ (entryOf a < 10000) × Room (now buf) at (openText a) ⌝ }
     ensures { λ r. ⌜ Laid (now (buf .entry)) at (openText a) (now (buf .exit)) r ⌝ }
 {
     if let Answer::Refused(r) = a {
         let t = first_value(r);
-        let b = buffer::copy(buf, at, b"entry ");
-        let e = text::put_decimal(buf, b, t as u64);
-        return buffer::copy(buf, e, b" is closed");
+        let b = put_numbered(buf, at, b": entry ", t);
+        return buffer::copy(buf, b, b" is closed\n");
     }
-    buffer::copy(buf, at, b"open")
+    buffer::copy(buf, at, b": open\n")
 }
 
 // The line of one pair.
@@ -162,15 +170,11 @@ fn put_pair(buf: &mut [u8], at: usize, s: Session, name: &[u8], gate: u64, table
     let old = s.loaded[g];
     let x = engine::exchange(s, signal, table);
     let y = x.answer;
-    let a = buffer::copy(buf, at, b"gate ");
-    let b = buffer::copy(buf, a, name);
-    let c = buffer::copy(buf, b, b" from ");
-    let d = text::put_hex(buf, c, old);
-    let e = buffer::copy(buf, d, b" to ");
-    let f = text::put_hex(buf, e, table);
-    let h = buffer::copy(buf, f, b": ");
-    let i = put_standing(buf, h, y);
-    buffer::copy(buf, i, b"\n")
+    let a = put_around(buf, at, b"gate ", name, b" from ");
+    let b = text::put_hex(buf, a, old);
+    let c = buffer::copy(buf, b, b" to ");
+    let d = text::put_hex(buf, c, table);
+    put_open(buf, d, y)
 }
 
 fn put_pairs(buf: &mut [u8], at: usize, s: Session, text: &[u8], o: Order) -> usize
@@ -182,11 +186,10 @@ fn put_pairs(buf: &mut [u8], at: usize, s: Session, text: &[u8], o: Order) -> us
     let mut a = at;
     let mut i: usize = 0;
     while i < n {
-        let b = o.starts[i];
-        let e = o.ends[i];
         let gate = o.gates[i];
         let table = o.tables[i];
-        a = put_pair(buf, a, s, &text[b..e], gate, table);
+        let name = ordertext::name(text, o, i);
+        a = put_pair(buf, a, s, name, gate, table);
         i += 1;
     }
     a
@@ -221,9 +224,8 @@ fn put_answer(buf: &mut [u8], reply: Reply, s: Session, text: &[u8], o: Order) -
             put_pairs(buf, a, s, text, o)
         }
         Reply::PairRefused { refusal, pair } => {
-            let b = o.starts[pair];
-            let e = o.ends[pair];
-            put_pair_refused(buf, refusal, &text[b..e])
+            let name = ordertext::name(text, o, pair);
+            put_pair_refused(buf, refusal, name)
         }
         Reply::FileRefused(r) => put_file_refused(buf, r),
     }

@@ -116,7 +116,7 @@ pair-refused-length r gate =
 
 -- ## A line for each pair
 
-line-length : (s : Session) (q : Pair) → length (q .gate) ≤ 4 → length (openText (exchangeAnswer s (replacementOf q))) ≤ 18 → length (pairLine s q) ≤ 48
+line-length : (s : Session) (q : Pair) → length (q .gate) ≤ 4 → length (openText (exchangeAnswer s (replacementOf q))) ≤ 21 → length (pairLine s q) ≤ 48
 unfolding pairLine
 line-length s q h k =
     let a = length-hex (getD (s .loaded) (signalOf q - s .n) 0) in
@@ -124,7 +124,7 @@ line-length s q h k =
     simp length-append (omega arith)
 
 -- 13's entry has two digits at the most
-open-length : (N : Net) (r : Replacement) (a : Answer) → (isGate N (r .signal) ≡ true → entries N (r .signal) ≤ 16) → Cause N r a → length (openText a) ≤ 18
+open-length : (N : Net) (r : Replacement) (a : Answer) → (isGate N (r .signal) ≡ true → entries N (r .signal) ≤ 16) → Cause N r a → length (openText a) ≤ 21
 open-length N r a f (no-gate p) = let d = decimal-two 0 (omega arith) in simp length-append (omega arith)
 open-length N r a f (too-wide p q) = let d = decimal-two 0 (omega arith) in simp length-append (omega arith)
 open-length N r a f (closes t p q w) = let e = f p in let d = decimal-two t (omega (arith, w .0)) in simp length-append (omega arith)
@@ -156,7 +156,7 @@ module _ (s : Session) (fresh : Fresh s) where
   pairs-length named [] a = omega arith
   pairs-length named (q ∷ ps) a =
       let r = replacementOf q in
-      let o = subst (λ (x : Answer). length (openText x) ≤ 18) (sym (answer-loaded s fresh r)) (open-length L r (answerBy L r) (gate-entries (r .signal)) (answer-because L r)) in
+      let o = subst (λ (x : Answer). length (openText x) ≤ 21) (sym (answer-loaded s fresh r)) (open-length L r (answerBy L r) (gate-entries (r .signal)) (answer-because L r)) in
       let l = line-length s q (name-length q (a .0)) o in
       let k = pairs-length (signalOf q ∷ named) ps (a .3) in
       rw (length-append (pairLine s q) (pairLines s ps)) (omega arith)

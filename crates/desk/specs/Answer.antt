@@ -73,15 +73,15 @@ pairRefusedLine r gate =
 
 -- what would be answered to the exchange
 abbrev pub openText : Answer → Text
-openText Done = ascii "open"
-openText (Refused r) = ascii "entry " ++ decimal (getD (valuesOf r) 0 0) ++ ascii " is closed"
+openText Done = ascii ": open\n"
+openText (Refused r) = ascii ": entry " ++ decimal (getD (valuesOf r) 0 0) ++ ascii " is closed\n"
 
 unfoldable pub pairLine : Session → Pair → Text
 pairLine s p =
     ascii "gate " ++ p .gate
     ++ ascii " from " ++ hex (getD (s .loaded) (signalOf p - s .n) 0)
     ++ ascii " to " ++ hex (p .table)
-    ++ ascii ": " ++ openText (exchangeAnswer s (replacementOf p)) ++ ascii "\n"
+    ++ openText (exchangeAnswer s (replacementOf p))
 
 abbrev pub pairLines : Session → List Pair → Text
 pairLines s [] = []

@@ -1,31 +1,37 @@
--- What a caller of `order_of` has where the text is pairs. Assumes nothing.
-use mathlib.Core.Path.{_≡_, refl, sym, ap, _∙_, subst}
-use mathlib.Core.List.{List, [], _∷_, map}
-use Prim.Native.Nat.{ℕ, _≤_}
-use lib.ListN.{take}
+-- What a caller has of an order that was read, pair by pair. Assumes nothing.
+use mathlib.Core.Path.{_≡_, sym, ap, _∙_}
+use mathlib.Core.List.{List}
+use Prim.Native.Nat.{ℕ, _<_, _≤_}
+use native.Mathlib.Omega.{arith}
+use lib.ListN.{length, getD}
+use lib.Seq.{getD-take}
+use Rattle.bits.proofs.Ranges.{length-places, places-at, map-places}
 use Rattle.text.specs.Words.{Text}
+use Rattle.ordertext.specs.declared.Case.{Case}
 use Rattle.ordertext.specs.declared.Case.the-variants as case
 use Rattle.ordertext.specs.declared.Order.{Order}
-use Rattle.ordertext.specs.Order.{mostPairs, replacementOf, ordered, orderOf}
-use Rattle.ordertext.specs.Reads.{pairsIn, Inside, countIn, parsedIn, CaseFits, Reads}
+use Rattle.ordertext.specs.Order.{mostPairs, Pair, signalOf}
+use Rattle.ordertext.specs.Reads.{pairIn, countIn, pairsGiven, CaseFits, Reads}
 
-map-map : {A B : Type 0} (f : B → ℕ) (g : A → B) (l : List A) → map f (map g l) ≡ map (λ a. f (g a)) l
-map-map f g [] = refl
-map-map f g (a ∷ l) = ap (λ (m : List ℕ). f (g a) ∷ m) (map-map f g l)
+module _ (text : Text) (o : Order) (r : Reads text o) where
+  abbrev n : ℕ
+  n = countIn (o .case)
 
-module _ (text : Text) (o : Order) (n : ℕ) (r : Reads text o) (c : o .case ≡ case.Pairs n) where
-  pub given-order : orderOf text ≡ ordered (pairsIn text o n)
-  given-order = sym (r .parsed) ∙ ap (parsedIn text o) c
+  -- the arrays have a place for each pair
+  pub given-few : n ≤ mostPairs
+  given-few = go (o .case) (r .fits)
+    where
+      go : (c : Case) → CaseFits text c → countIn c ≤ mostPairs
+      go (case.Pairs k) f = f .1
+      go (case.NoPair a e) f = omega arith
+      go case.Blank f = omega arith
 
-  -- the two lists that a verdict takes, of the pairs' replacements
-  pub given-signals : take n (o .gates) ≡ map (λ x. x .signal) (map replacementOf (pairsIn text o n))
-  given-signals = rw (ap countIn c) at (r .signals) ∙ sym (map-map (λ x. x .signal) replacementOf (pairsIn text o n))
+  pub given-length : length (pairsGiven text o) ≡ n
+  given-length = length-places n (pairIn text o)
 
-  pub given-tables : take n (o .tables) ≡ map (λ x. x .table) (map replacementOf (pairsIn text o n))
-  given-tables = rw (ap countIn c) at (r .tables) ∙ sym (map-map (λ x. x .table) replacementOf (pairsIn text o n))
+  pub given-at : (other : Pair) (i : ℕ) → i < n → getD (pairsGiven text o) i other ≡ pairIn text o i
+  given-at other i h = places-at other n (pairIn text o) i h
 
-  pub given-inside : Inside text (o .starts) (o .ends) n
-  given-inside = rw (ap countIn c) at (r .inside)
-
-  pub given-count : (1 ≤ n) × (n ≤ mostPairs)
-  given-count = subst (CaseFits text) c (r .fits)
+  pub given-signal : (i : ℕ) → i < n → getD (o .gates) i 0 ≡ signalOf (pairIn text o i)
+  given-signal i h =
+      sym (getD-take n (o .gates) i 0 h) ∙ ap (λ (l : List ℕ). getD l i 0) (r .signals ∙ map-places signalOf n (pairIn text o)) ∙ places-at 0 n (λ j. signalOf (pairIn text o j)) i h

@@ -1,6 +1,5 @@
 -- Cases of an order's text, each computed and held against what is stated. Assumes nothing.
-use mathlib.Core.Path.{_≡_}
-use mathlib.Core.List.{List, [], _∷_, map}
+use mathlib.Core.List.{List, [], _∷_}
 use Prim.Native.Nat.{ℕ}
 use Rattle.text.specs.Ascii.{ascii}
 use Rattle.text.specs.Words.{Text}
@@ -8,10 +7,6 @@ use Rattle.ordertext.specs.Order.{Pair, Parsed, Pairs, NoPair, Blank, si
 
 abbrev pub pair : Text → ℕ → Pair
 pair name t = record { gate = name; table = t }
-
--- a case is a pair: what the definitions give, and what is stated
-abbrev pub Hold : List (Parsed × Parsed) → Type 0
-Hold cs = map (λ c. c .0) cs ≡ map (λ c. c .1) cs
 
 abbrev pub parsed : List (Parsed × Parsed)
 parsed =

@@ -27,6 +27,9 @@ pairAt text tables starts ends i = record { gate = part text (getD starts i 0) (
 abbrev pub pairsAt : Text → (tables starts ends : List ℕ) → ℕ → List Pair
 pairsAt text tables starts ends n = places n (pairAt text tables starts ends)
 
+abbrev pub pairIn : Text → Order → ℕ → Pair
+pairIn text o i = pairAt text (o .tables) (o .starts) (o .ends) i
+
 abbrev pub pairsIn : Text → Order → ℕ → List Pair
 pairsIn text o n = pairsAt text (o .tables) (o .starts) (o .ends) n
 

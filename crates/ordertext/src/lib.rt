@@ -5,7 +5,7 @@ ghost use Prim.Native.Nat.{_+_, _^_, _≤_, _<_};
 ghost use lib.ListN.{length, drop};
 ghost use Rattle.text.specs.Words.{before, all};
 ghost use Rattle.ordertext.specs.Order.{mostOrderBytes, isGap, gapIs, isPrinting, between, digitOf, digits, isNumeral, numeral, nameLength, isPair, signalNamed};
-ghost use Rattle.ordertext.specs.Reads.{splitOf, countIn, Reads};
+ghost use Rattle.ordertext.specs.Reads.{splitOf, pairIn, countIn, Reads};
 
 // The bytes of an order's text, and its pairs: each takes 4 bytes with the gap before it.
 pub const MOST_ORDER_BYTES: usize = 1024;
@@ -233,6 +233,16 @@ pub fn order_of(text: &[u8]) -> Order
         starts: starts,
         ends: ends,
     }
+}
+
+// The gate's name of pair i, as it stands in the text.
+pub fn name(text: &[u8], o: Order, i: usize) -> &[u8]
+    requires { ⌜ Reads (now text) o × (i < countIn (o .case)) ⌝ }
+    ensures { λ r. ⌜ now r ≡ pairIn (now (text .entry)) o i .gate ⌝ }
+{
+    let a = o.starts[i];
+    let e = o.ends[i];
+    &text[a..e]
 }
 
 // How many pairs the order has.

@@ -1,6 +1,6 @@
 -- `answer`: what was judged, printed. Assumes nothing.
 use borrow.Author.Needs.{needs}
-use Rattle.answertext.proofs.Printed.{given-few}
+use Rattle.ordertext.proofs.Given.{given-few}
 use Rattle.answertext.proofs.Asked.{ready, answered}
 use Rattle.answertext.proofs.answer.Statement.{statement}
 use Rattle.answertext.proofs.answer.Tie as tie
