@@ -21,19 +21,13 @@ use Rattle.network.proofs.Valid.{net-ok}
 use Rattle.network.proofs.Exchanges.{no-gate, too-wide, closes, accepts, Cause, answer-because, gate-e}
 use Rattle.network.proofs.Reached.{loaded-fresh}
 use Rattle.buffer.specs.Laid.{Room}
-use Rattle.text.specs.Words.{Text}
-use Rattle.ordertext.specs.declared.Case.{Case}
-use Rattle.ordertext.specs.declared.Case.the-variants as case
-use Rattle.ordertext.specs.declared.Order.{Order}
-use Rattle.ordertext.specs.Order.{Pair, replacementOf, signalOf, ordered, orderOf}
-use Rattle.ordertext.specs.Reads.{pairsIn, countIn, parsedIn, pairsGiven}
-use Rattle.ordertext.proofs.Given.{given-length}
+use Rattle.ordertext.specs.Order.{Pair, Parsed, Pairs, NoPair, Blank, replacementOf, signalOf, orderOf, pairsOf}
 use Rattle.desk.specs.declared.Reply.{Reply}
 use Rattle.desk.specs.declared.Reply.the-variants.{Open, Alone, Harmful, PairRefused, FileRefused}
 use Rattle.network.specs.Calls.{pairsTest, refusedAt}
 use Rattle.network.specs.Lists.{Sound}
 use Rattle.desk.specs.Reply.{replyOf}
-use Rattle.desk.specs.Answer.{answerFor, answerText}
+use Rattle.desk.specs.Answer.{answerText}
 use Rattle.answertext.specs.Prints.{entryOf, Shown, AllShown, Prints, PrintsOf, RoomOf}
 use Rattle.desk.specs.Promises.{replacements, Comes}
 use Rattle.network.proofs.Lists.{sound-e}
@@ -106,18 +100,10 @@ prints-of file ps = by-load file ps (loadOf file .answer) refl
 
 -- ## Its room
 
-module _ (text : Text) (o : Order) where
-  order-read : (c : Case) → parsedIn text o c ≡ orderOf text → 1 ≤ countIn c → orderOf text ≡ ordered (pairsIn text o (countIn c))
-  order-read (case.Pairs n) e h = sym e
-  order-read (case.NoPair a b) e h = absurd (omega arith)
-  order-read case.Blank e h = absurd (omega arith)
-
 pub room-of : RoomOf
-unfolding answerText
-room-of file text buffer o r l n h =
-    let k = given-length text o r in
-    go (pairsGiven text o) (order-read text o (o .case) (r .parsed) n) (omega arith)
+room-of file text buffer l n h = go (orderOf text) refl n
   where
-    go : (ps : List Pair) → orderOf text ≡ ordered ps → 1 ≤ length ps → Room buffer 0 (answerFor (replyOf file ps) (loadOf file .session) ps)
-    go [] e k = absurd (omega arith)
-    go (p ∷ ps) e k = let a = answer-length file text p ps l e .most in omega arith
+    go : (q : Parsed) → orderOf text ≡ q → 1 ≤ length (pairsOf q) → Room buffer 0 (answerText file (pairsOf q))
+    go (Pairs p ps) e k = let a = answer-length file text p ps l e .most in omega arith
+    go (NoPair w) e k = absurd (omega arith)
+    go Blank e k = absurd (omega arith)

@@ -28,8 +28,7 @@ use Rattle.ordertext.specs.Order.{Pair, signalNamed, replacementOf}
 use Rattle.ordertext.specs.Reads.{pairIn, countIn, Reads, pairsGiven}
 use Rattle.ordertext.proofs.Given.{given-length, given-at, given-signal}
 use Rattle.desk.specs.declared.Reply.{Reply}
-use Rattle.desk.specs.declared.Reply.the-variants.{Open, Alone, Harmful}
-use Rattle.desk.specs.Answer.{openLine, aloneLine, lineOn, onLines, linesOn, harmLine, refusedLine, reasons, fileLine, pairRefusedLine, openText, pairLine, pairLines, noPair, answerFor}
+use Rattle.desk.specs.Answer.{lineOn, onLines, linesOn, harmLine, refusedLine, reasons, fileLine, pairRefusedLine, openText, pairLine, pairLines, noPair, answerFor}
 use Rattle.answertext.specs.Prints.{entryOf, Shown, AllShown, Prints}
 use Rattle.answertext.proofs.Pieces.{joined}
 

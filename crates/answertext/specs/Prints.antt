@@ -13,14 +13,12 @@ use Rattle.network.specs.Load.{loadOf}
 use Rattle.network.specs.Calls.{exchangeAnswer}
 use Rattle.buffer.specs.Laid.{Room}
 use Rattle.text.specs.Words.{Text}
-use Rattle.ordertext.specs.declared.Order.{Order}
-use Rattle.ordertext.specs.Order.{mostOrderBytes, Pair, replacementOf}
-use Rattle.ordertext.specs.Reads.{pairsGiven, countIn, Reads}
+use Rattle.ordertext.specs.Order.{mostOrderBytes, Pair, replacementOf, orderOf, pairsOf}
 use Rattle.desk.specs.declared.Reply.{Reply}
 use Rattle.desk.specs.declared.Reply.the-variants.{Open, Alone, Harmful, PairRefused, FileRefused}
 use Rattle.desk.specs.Reply.{replyOf}
 use Rattle.desk.specs.Promises.{mostAnswerBytes}
-use Rattle.desk.specs.Answer.{noPair, answerFor}
+use Rattle.desk.specs.Answer.{noPair, answerText}
 
 -- the entry that an exchange's answer names
 abbrev pub entryOf : Answer → ℕ
@@ -48,7 +46,7 @@ Prints s ps (FileRefused r) = Unit {0}
 abbrev pub PrintsOf : Type 0
 PrintsOf = (file : List ℕ) (ps : List Pair) → Prints (loadOf file .session) ps (replyOf file ps)
 
--- the answer to an order that was read has room in mostAnswerBytes
+-- the answer to an order has room in mostAnswerBytes
 abbrev pub RoomOf : Type 0
-RoomOf = (file text buffer : Text) (o : Order) → Reads text o → length text ≤ mostOrderBytes → 1 ≤ countIn (o .case) → mostAnswerBytes ≤ length buffer
-    → Room buffer 0 (answerFor (replyOf file (pairsGiven text o)) (loadOf file .session) (pairsGiven text o))
+RoomOf = (file text buffer : Text) → length text ≤ mostOrderBytes → 1 ≤ length (pairsOf (orderOf text)) → mostAnswerBytes ≤ length buffer
+    → Room buffer 0 (answerText file (pairsOf (orderOf text)))

@@ -7,7 +7,7 @@ ghost use Rattle.bits.specs.Bounds.{mostInputs};
 ghost use Rattle.network.specs.Refusals.{valuesOf};
 ghost use Rattle.buffer.specs.Laid.{Room, Laid};
 ghost use Rattle.text.specs.Numbers.{decimal};
-ghost use Rattle.ordertext.specs.Order.{signalNamed};
+ghost use Rattle.ordertext.specs.Order.{signalNamed, orderOf, pairsOf};
 ghost use Rattle.ordertext.specs.Reads.{pairsGiven, Reads};
 ghost use Rattle.desk.specs.Promises.{mostAnswerBytes};
 ghost use Rattle.desk.specs.Answer.{lineOn, linesOn, harmLine, reasons, fileLine, pairRefusedLine, openText, pairLine, pairLines, answerFor};
@@ -241,7 +241,7 @@ pub struct Answered {
 // The answer to the order of a text on the board of a file, at the start of a buffer that has room for any.
 pub fn answer(buf: &mut [u8], file: &[u8], text: &[u8], o: Order) -> Answered
     requires { ⌜ Asks (now text) o × (mostAnswerBytes ≤ length (now buf)) ⌝ }
-    ensures { λ r. ⌜ Answers (now (file .entry)) (pairsGiven (now (text .entry)) o) (now (buf .entry)) (now (buf .exit)) r ⌝ }
+    ensures { λ r. ⌜ Answers (now (file .entry)) (pairsOf (orderOf (now (text .entry)))) (now (buf .entry)) (now (buf .exit)) r ⌝ }
 {
     let j = judging::judge(file, o);
     let reply = j.reply;

@@ -1,6 +1,6 @@
 -- Orders in a row, each on the board that the last granted one gave. Assumes nothing.
 use mathlib.Core.Path.{_≡_, refl, sym, ap, _∙_, subst}
-use mathlib.Core.Bool.{Bool, true, false, Bool·beq, false≢true}
+use mathlib.Core.Bool.{Bool, true, false, Bool·beq}
 use mathlib.Core.List.{List, [], _∷_}
 use Prim.Native.Nat.{ℕ, _<_}
 use lib.ListN.{length}
@@ -8,7 +8,6 @@ use borrow.Author.Tests.{not-false}
 use Rattle.bits.proofs.Ranges.{by-cases}
 use Rattle.bits.proofs.Logic.{beq-e}
 use Rattle.network.specs.declared.Session.{Session}
-use Rattle.network.specs.declared.Answer.the-variants.{Done}
 use Rattle.network.specs.Net.{Gate, Net, patterns, excluded, excludedFor, output, Replacement, withGates, replaceOne, replaced}
 use Rattle.network.specs.DontCares.{harms}
 use Rattle.network.specs.Flat.{loadedNet}

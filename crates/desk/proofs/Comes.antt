@@ -12,8 +12,7 @@ use Rattle.network.specs.declared.Refusal.{Refusal}
 use Rattle.network.specs.declared.Refusal.the-variants.{NotAGate, TableTooWide, Harm, GateRepeated}
 use Rattle.network.specs.declared.Answer.{Answer}
 use Rattle.network.specs.declared.Answer.the-variants.{Done, Refused}
-use Rattle.network.specs.Net.{Net, isGate, patternOrder, Replacement, replaced}
-use Rattle.network.specs.DontCares.{harms}
+use Rattle.network.specs.Net.{Net, isGate, Replacement, replaced}
 use Rattle.network.specs.Flat.{loadedNet}
 use Rattle.network.specs.Refusals.{said}
 use Rattle.network.specs.Tests.{refuseIf, orElse, first, isDone, member}

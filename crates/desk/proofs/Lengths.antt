@@ -30,7 +30,7 @@ use Rattle.network.proofs.Fresh.{Fresh}
 use Rattle.network.proofs.Valid.{net-ok, outputs-ok}
 use Rattle.network.proofs.Exchanges.{no-gate, too-wide, closes, accepts, Cause, answer-because, net-arity, loaded-length, gate-e}
 use Rattle.network.proofs.Reached.{loaded-fresh}
-use Rattle.text.specs.Numbers.{hex, decimal}
+use Rattle.text.specs.Numbers.{decimal}
 use Rattle.text.proofs.Digits.{length-decimal, length-hex}
 use Rattle.ordertext.specs.Order.{mostOrderBytes, Pair, Pairs, isNumeral, signalNamed, signalOf, replacementOf, orderOf}
 use Rattle.ordertext.proofs.Numerals.{numeral-e}

@@ -9,15 +9,9 @@ use Rattle.network.specs.Examples.{twinBytes, twinSession, held}
 use Rattle.network.specs.Cases.{numbers}
 use Rattle.text.specs.Ascii.{ascii}
 use Rattle.text.specs.Words.{Text}
-use Rattle.ordertext.specs.Order.{Pair, Parsed, Pairs, NoPair, Blank, replacementOf, orderOf}
+use Rattle.ordertext.specs.Order.{replacementOf, orderOf, pairsOf}
 use Rattle.desk.specs.Reply.{replyOn, boardOf}
 use Rattle.desk.specs.Answer.{openLine, aloneLine, answerFor, answerText}
-
--- the pairs of an order's text
-abbrev pub pairsOf : Parsed → List Pair
-pairsOf (Pairs p ps) = p ∷ ps
-pairsOf (NoPair w) = []
-pairsOf Blank = []
 
 -- the answer on a loaded board
 abbrev pub asked : Session → Text → Text

@@ -148,11 +148,11 @@ mostAnswerBytes = 68 + mostGates * 48
 abbrev pub mostRefusalBytes : ℕ
 mostRefusalBytes = (mostOrderBytes - 2) + 24
 
-pub record AnswerLength (file text : List ℕ) (ps : List Pair) : Type 0 where
+pub record AnswerLength (file : List ℕ) (ps : List Pair) : Type 0 where
   pub most : length (answerText file ps) ≤ mostAnswerBytes
   -- where a pair is refused
   pub refusal : (s : Session) (f : Refusal) → loadOf file ≡ loadDone s → pairsTest (loadedNet s) [] (replacements ps) ≡ Refused f
       → length (answerText file ps) ≤ mostRefusalBytes
 
 abbrev pub AnswerLengthOf : Type 0
-AnswerLengthOf = (file text : List ℕ) (p : Pair) (ps : List Pair) → length text ≤ mostOrderBytes → orderOf text ≡ Pairs p ps → AnswerLength file text (p ∷ ps)
+AnswerLengthOf = (file text : List ℕ) (p : Pair) (ps : List Pair) → length text ≤ mostOrderBytes → orderOf text ≡ Pairs p ps → AnswerLength file (p ∷ ps)

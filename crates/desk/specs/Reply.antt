@@ -1,6 +1,6 @@
 -- What an order on a board is answered. Assumes nothing.
 use mathlib.Core.Bool.{Bool, true, false, cond}
-use mathlib.Core.List.{List, [], _∷_, map}
+use mathlib.Core.List.{List, [], map}
 use Prim.Native.Nat.{ℕ}
 use Rattle.network.specs.declared.Session.{Session}
 use Rattle.network.specs.declared.Refusal.{Refusal}

@@ -28,13 +28,13 @@ use Rattle.roundtrip.proofs.Lengths.{written-length}
 use Rattle.replacements.specs.Pair.{GatesIn}
 use Rattle.replacements.proofs.Pairs.{pairs-at}
 use Rattle.ordertext.specs.declared.Order.{Order}
-use Rattle.ordertext.specs.Order.{Pair, signalOf, replacementOf}
+use Rattle.ordertext.specs.Order.{Pair, signalOf, replacementOf, orderOf, pairsOf}
 use Rattle.ordertext.specs.Reads.{countIn, pairsGiven, Reads}
+use Rattle.ordertext.proofs.Given.{given-pairs}
 use Rattle.desk.specs.declared.Reply.{Reply}
 use Rattle.desk.specs.Reply.{allOpen, replyWith, replyOn, replyFor, replyOf, grants, placed, boardOf}
 use Rattle.desk.proofs.Placed.{placed-valid}
 use Rattle.desk.proofs.Replies.{granted-verdict, verdict-sound}
-use Rattle.judging.specs.declared.Judged.{Judged}
 use Rattle.judging.specs.Judged.{replacementsIn, judgedOf, Placeable, Put, GivenOf}
 
 -- ## All pairs open
@@ -102,13 +102,13 @@ pairs-map [] = refl
 pairs-map (p ∷ ps) = ap (λ (rs : List Replacement). replacementOf p ∷ rs) (pairs-map ps)
 
 module _ (text : List ℕ) (o : Order) (r : Reads text o) where
-  -- the pairs that it holds are those of the text
-  given-pairs : replacementsIn o ≡ map replacementOf (pairsGiven text o)
-  given-pairs = rw (r .signals, r .tables) (pairs-map (pairsGiven text o))
+  -- the replacements that it holds are those of the text's pairs
+  held-pairs : replacementsIn o ≡ map replacementOf (pairsOf (orderOf text))
+  held-pairs = rw (r .signals, r .tables) (pairs-map (pairsGiven text o)) ∙ ap (map replacementOf) (given-pairs text o r)
 
-  judged-reply : (file : List ℕ) → judgedOf file (replacementsIn o) .reply ≡ replyOf file (pairsGiven text o)
+  judged-reply : (file : List ℕ) → judgedOf file (replacementsIn o) .reply ≡ replyOf file (pairsOf (orderOf text))
   unfolding judgedOf replyOf
-  judged-reply file = ap (replyFor (loadOf file .answer) (loadOf file .session)) given-pairs
+  judged-reply file = ap (replyFor (loadOf file .answer) (loadOf file .session)) held-pairs
 
 -- ## The new board
 
@@ -161,9 +161,9 @@ on-file file rs Done e g =
 pub given : GivenOf
 unfolding replyOf boardOf
 given file text o r =
-    let rs = map replacementOf (pairsGiven text o) in
+    let rs = map replacementOf (pairsOf (orderOf text)) in
     let s = loadOf file .session in
-    let e = given-pairs text o r in
+    let e = held-pairs text o r in
     record {
       pairs = e;
       reply = judged-reply text o r file;

@@ -15,8 +15,8 @@ use Rattle.network.specs.Write.{bytesOf}
 use Rattle.network.specs.Calls.{pairs}
 use Rattle.replacements.specs.Pair.{GatesIn}
 use Rattle.ordertext.specs.declared.Order.{Order}
-use Rattle.ordertext.specs.Order.{replacementOf}
-use Rattle.ordertext.specs.Reads.{countIn, pairsGiven, Reads}
+use Rattle.ordertext.specs.Order.{replacementOf, orderOf, pairsOf}
+use Rattle.ordertext.specs.Reads.{countIn, Reads}
 use Rattle.desk.specs.Reply.{replyFor, replyOf, grants, placed, boardOf}
 use Rattle.judging.specs.declared.Judged.{Judged}
 
@@ -40,10 +40,10 @@ pub record Put (s : Session) (rs : List Replacement) (before after : List ℕ) (
 
 -- of an order that was read, on the board of a file: these are its pairs, a granted one can be done, and what is written is the new board
 pub record Given (file text : List ℕ) (o : Order) : Type 0 where
-  pub pairs : replacementsIn o ≡ map replacementOf (pairsGiven text o)
-  pub reply : judgedOf file (replacementsIn o) .reply ≡ replyOf file (pairsGiven text o)
-  pub placeable : grants (replyOf file (pairsGiven text o)) ≡ true → Placeable (loadOf file .session) (replacementsIn o)
-  pub board : bytesOf (placed (loadOf file .session) (replacementsIn o)) ≡ boardOf file (pairsGiven text o)
+  pub pairs : replacementsIn o ≡ map replacementOf (pairsOf (orderOf text))
+  pub reply : judgedOf file (replacementsIn o) .reply ≡ replyOf file (pairsOf (orderOf text))
+  pub placeable : grants (replyOf file (pairsOf (orderOf text))) ≡ true → Placeable (loadOf file .session) (replacementsIn o)
+  pub board : bytesOf (placed (loadOf file .session) (replacementsIn o)) ≡ boardOf file (pairsOf (orderOf text))
 
 abbrev pub GivenOf : Type 0
 GivenOf = (file text : List ℕ) (o : Order) → Reads text o → Given file text o

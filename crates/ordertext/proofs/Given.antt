@@ -1,6 +1,6 @@
 -- What a caller has of an order that was read, pair by pair. Assumes nothing.
-use mathlib.Core.Path.{_≡_, sym, ap, _∙_}
-use mathlib.Core.List.{List}
+use mathlib.Core.Path.{_≡_, refl, sym, ap, _∙_}
+use mathlib.Core.List.{List, [], _∷_}
 use Prim.Native.Nat.{ℕ, _<_, _≤_}
 use native.Mathlib.Omega.{arith}
 use lib.ListN.{length, getD}
@@ -10,8 +10,12 @@ use Rattle.text.specs.Words.{Text}
 use Rattle.ordertext.specs.declared.Case.{Case}
 use Rattle.ordertext.specs.declared.Case.the-variants as case
 use Rattle.ordertext.specs.declared.Order.{Order}
-use Rattle.ordertext.specs.Order.{mostPairs, Pair, signalOf}
-use Rattle.ordertext.specs.Reads.{pairIn, countIn, pairsGiven, CaseFits, Reads}
+use Rattle.ordertext.specs.Order.{mostPairs, Pair, signalOf, ordered, orderOf, pairsOf}
+use Rattle.ordertext.specs.Reads.{pairIn, pairsIn, countIn, pairsGiven, parsedIn, CaseFits, Reads}
+
+ordered-pairs : (ps : List Pair) → pairsOf (ordered ps) ≡ ps
+ordered-pairs [] = refl
+ordered-pairs (p ∷ ps) = refl
 
 module _ (text : Text) (o : Order) (r : Reads text o) where
   abbrev n : ℕ
@@ -25,6 +29,15 @@ module _ (text : Text) (o : Order) (r : Reads text o) where
       go (case.Pairs k) f = f .1
       go (case.NoPair a e) f = omega arith
       go case.Blank f = omega arith
+
+  -- they are those of the text
+  pub given-pairs : pairsGiven text o ≡ pairsOf (orderOf text)
+  given-pairs = go (o .case) (r .parsed)
+    where
+      go : (c : Case) → parsedIn text o c ≡ orderOf text → pairsIn text o (countIn c) ≡ pairsOf (orderOf text)
+      go (case.Pairs k) e = sym (ordered-pairs (pairsIn text o k)) ∙ ap pairsOf e
+      go (case.NoPair a b) e = ap pairsOf e
+      go case.Blank e = ap pairsOf e
 
   pub given-length : length (pairsGiven text o) ≡ n
   given-length = length-places n (pairIn text o)

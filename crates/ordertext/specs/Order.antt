@@ -124,3 +124,9 @@ parse ps (w ∷ ws) = cond (isPair w) (parse (ps ++ pairOf w ∷ []) ws) (NoPair
 
 unfoldable pub orderOf : Text → Parsed
 orderOf text = parse [] (words isGap text)
+
+-- the pairs of an order; of any other text none
+abbrev pub pairsOf : Parsed → List Pair
+pairsOf (Pairs p ps) = p ∷ ps
+pairsOf (NoPair w) = []
+pairsOf Blank = []

@@ -1,8 +1,11 @@
--- Cases of numbers as text, each computed and held against the text. Assumes nothing.
+-- Cases of numbers as text and of a text's parts, each computed and held against what is stated. Assumes nothing.
+use mathlib.Core.Bool.{Bool}
 use mathlib.Core.List.{List, [], _∷_}
 use Prim.Native.Nat.{ℕ}
+use lib.Dec.{eqb}
 use Rattle.text.specs.Ascii.{ascii}
 use Rattle.text.specs.Numbers.{hex, decimal}
+use Rattle.text.specs.Words.{Text, parts, before, words}
 
 abbrev pub shown : List (List ℕ × List ℕ)
 shown =
@@ -22,4 +25,19 @@ shown =
     ∷ (hex 0xCDEF, ascii "cdef")
     -- the codes themselves, and the end of a line
     ∷ (ascii "09 az\n", 0x30 ∷ 0x39 ∷ 0x20 ∷ 0x61 ∷ 0x7A ∷ 0x0A ∷ [])
+    ∷ []
+
+abbrev isSpace : ℕ → Bool
+isSpace b = eqb b 0x20
+
+abbrev pub parted : List (List Text × List Text)
+parted =
+    (parts isSpace [], [] ∷ [])
+    ∷ (parts isSpace (ascii "ab c"), ascii "ab" ∷ ascii "c" ∷ [])
+    ∷ (parts isSpace (ascii " ab  c"), [] ∷ ascii "ab" ∷ [] ∷ ascii "c" ∷ [])
+    -- the words are the parts that are not empty
+    ∷ (words isSpace (ascii " ab  c "), ascii "ab" ∷ ascii "c" ∷ [])
+    ∷ (words isSpace (ascii "  "), [])
+    -- what stands before the first space
+    ∷ (before isSpace (ascii "ab c d") ∷ before isSpace (ascii "ab") ∷ before isSpace (ascii " ab") ∷ [], ascii "ab" ∷ ascii "ab" ∷ [] ∷ [])
     ∷ []
