@@ -13,5 +13,5 @@ pub use calls::call;
 pub use file::{load, write};
 pub use listing::listing;
 pub use network::Network;
-pub use order::{answer, pairs, USAGE};
+pub use order::{answer, pairs, REASONS, USAGE};
 pub use state::*;

@@ -29,7 +29,7 @@ pub fn read_all(fd: i32, file: &mut [u8]) -> Taken
     Taken::Bytes(n)
 }
 
-// Whether the text could be printed; where not, this is told.
+// Whether the text could be printed; where not, this is told. No contract can say what was written.
 pub fn print(text: &[u8]) -> bool {
     if io::write_all(STDOUT_FILENO, text) {
         return true;

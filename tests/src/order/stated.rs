@@ -2,7 +2,7 @@
 
 use super::{command, compare, due, shown, word, words, Files, Folder, Outcome, Word};
 use crate::files::{twin_but, twin_to, TWIN};
-use crate::reference::USAGE;
+use crate::reference::{REASONS, USAGE};
 use crate::report::{Case, Report};
 
 pub const OPEN: &str = "yes: open, also together with any other order open on this board\n";
@@ -21,17 +21,6 @@ board to NEW, a new file: ask the next order on that one.
   refused     a fault in the file or in the order
 The gates marked open may get their tables even after a no, all of them.
 ";
-
-const REASONS: [&str; 8] = [
-    "the file ends too soon",
-    "no network file, or a record out of place",
-    "a count is out of bounds",
-    "a fan-in is no earlier signal",
-    "a gate lists a fan-in twice",
-    "a bit is set past the end of a table or set",
-    "an output is no signal",
-    "bytes follow the last record",
-];
 
 fn named<const N: usize>(files: [(&str, Vec<u8>); N]) -> Files {
     files.map(|(name, bytes)| (name.to_string(), bytes)).into()

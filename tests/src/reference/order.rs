@@ -5,7 +5,8 @@ use super::network::{bit, Network};
 
 pub const USAGE: &str = "usage: order BOARD GATE=TABLE... [-o NEW]\n";
 
-const REASONS: [&str; 8] = [
+/// Of 1 to 8.
+pub const REASONS: [&str; 8] = [
     "the file ends too soon",
     "no network file, or a record out of place",
     "a count is out of bounds",
