@@ -2,7 +2,7 @@
 use mathlib.Core.Path.{_≡_, refl, sym, ap, _∙_, subst}
 use mathlib.Core.Logic.{_⊎_, inl, inr, ⊎-elim}
 use mathlib.Core.Bool.{Bool, true, false, not, cond}
-use mathlib.Core.List.{List, [], _∷_}
+use mathlib.Core.List.{List, [], _∷_, _++_}
 use Prim.Native.Nat.{ℕ, suc, _<_}
 use native.Mathlib.Omega.{arith}
 use lib.ListN.{length, getD, length-map}
@@ -25,9 +25,9 @@ use Rattle.network.proofs.Valid.{state-i}
 use Rattle.network.proofs.Reached.{loaded-fresh}
 use Rattle.ordertext.specs.Order.{Pair, signalOf, replacementOf}
 use Rattle.desk.specs.declared.Reply.the-variants.{Open, Alone, PairRefused}
-use Rattle.desk.specs.Reply.{allOpen, refusedReply, replyBy, replyOn}
+use Rattle.desk.specs.Reply.{allOpen, refusedReply, replyBy, replyOn, replyOf}
 use Rattle.desk.specs.Answer.{noPair}
-use Rattle.desk.specs.Promises.{replacements, Comes, ComesOf}
+use Rattle.desk.specs.Promises.{replacements, FileRefusedOf, PairRefusedOf, Comes, ComesOf}
 use Rattle.desk.proofs.Replies.{reply-loaded, verdict-harm}
 
 -- a refusal of a pair
@@ -122,6 +122,46 @@ module _ (s : Session) (fresh : Fresh s) (ps : List Pair) where
       go : (pairsTest (loadedNet s) [] rs ≡ Done) ⊎ ((f : Refusal) × (pairsTest (loadedNet s) [] rs ≡ Refused f) × OfPair f × (refusedAt (loadedNet s) [] rs < length rs)) → Comes s ps (replyOn s rs)
       go (inl e) = after-pairs e
       go (inr h) = at-pair (h .0) (h .1) (h .2) (h .3)
+
+-- ## The first pair at fault
+
+first-fault : (N : Net) (named : List ℕ) (front behind : List Pair) (p : Pair) (f : Refusal)
+    → pairsTest N named (replacements front) ≡ Done → pairsTest N named (replacements (front ++ p ∷ [])) ≡ Refused f
+    → (pairsTest N named (replacements (front ++ p ∷ behind)) ≡ Refused f) × (refusedAt N named (replacements (front ++ p ∷ behind)) ≡ length front)
+first-fault N named [] behind p f d e = go (pairTest N named (replacementOf p)) e
+  where
+    rest : List Replacement
+    rest = replacements behind
+
+    go : (a : Answer) → orElse a Done ≡ Refused f
+        → (orElse a (pairsTest N (signalOf p ∷ named) rest) ≡ Refused f) × (cond (isDone a) (suc (refusedAt N (signalOf p ∷ named) rest)) 0 ≡ 0)
+    go Done e = refused-done f (sym e)
+    go (Refused g) e = (e, refl)
+first-fault N named (q ∷ front) behind p f d e = go (pairTest N named (replacementOf q)) d e (first-fault N (signalOf q ∷ named) front behind p f)
+  where
+    test : List Pair → Answer
+    test ps = pairsTest N (signalOf q ∷ named) (replacements ps)
+
+    at : ℕ
+    at = refusedAt N (signalOf q ∷ named) (replacements (front ++ p ∷ behind))
+
+    go : (a : Answer) → orElse a (test front) ≡ Done → orElse a (test (front ++ p ∷ [])) ≡ Refused f
+        → (test front ≡ Done → test (front ++ p ∷ []) ≡ Refused f → (test (front ++ p ∷ behind) ≡ Refused f) × (at ≡ length front))
+        → (orElse a (test (front ++ p ∷ behind)) ≡ Refused f) × (cond (isDone a) (suc at) 0 ≡ suc (length front))
+    go Done d e next = let n = next d e in (n .0, ap suc (n .1))
+    go (Refused g) d e next = refused-done g d
+
+pub pair-refused : PairRefusedOf
+pair-refused file s front behind p f loads d e =
+    let h = first-fault (loadedNet s) [] front behind p f d e in
+    let ps = front ++ p ∷ behind in
+    reply-loaded file s ps loads
+    ∙ pair-reply s (loaded-fresh file s loads) ps f (h .0) (of-pair (loadedNet s) [] (replacements ps) f (h .0))
+    ∙ ap (PairRefused f) (h .1)
+
+pub file-refused : FileRefusedOf
+unfolding replyOf
+file-refused file ps f e = rw e
 
 pub comes : ComesOf
 comes file s ps loads = subst (Comes s ps) (sym (reply-loaded file s ps loads)) (comes-on s (loaded-fresh file s loads) ps)

@@ -117,6 +117,17 @@ pub record Begins (file : List ℕ) (ps : List Pair) : Type 0 where
 abbrev pub BeginsOf : Type 0
 BeginsOf = (file : List ℕ) (ps : List Pair) → Begins file ps
 
+-- ## Refusals are of the file, or of the first pair at fault
+
+abbrev pub FileRefusedOf : Type 0
+FileRefusedOf = (file : List ℕ) (ps : List Pair) (f : Refusal) → loadOf file .answer ≡ Refused f → replyOf file ps ≡ FileRefused f
+
+-- the pairs in front pass, and with the next one they do not: its place is named, whatever is behind it
+abbrev pub PairRefusedOf : Type 0
+PairRefusedOf = (file : List ℕ) (s : Session) (front behind : List Pair) (p : Pair) (f : Refusal) → loadOf file ≡ loadDone s
+    → pairsTest (loadedNet s) [] (replacements front) ≡ Done → pairsTest (loadedNet s) [] (replacements (front ++ p ∷ [])) ≡ Refused f
+    → replyOf file (front ++ p ∷ behind) ≡ PairRefused f (length front)
+
 -- ## On a board that loads a reply is of the order: 14 in its bounds, or 11, 16 or 12 of one of its pairs
 
 abbrev pub Comes : Session → List Pair → Reply → Type 0

@@ -1,8 +1,17 @@
 -- `put_hex`: four digits. Assumes nothing.
+use mathlib.Core.Path.{_≡_}
+use mathlib.Core.List.{[], _∷_}
 use borrow.Author.Needs.{needs}
+use Rattle.text.specs.Numbers.{hex}
 use Rattle.text.proofs.Digits.{hex-digits}
 use Rattle.text.proofs.put_hex.Statement.{statement}
 use Rattle.text.proofs.put_hex.Tie as tie
+
+abbrev start : tie.After-digit4 → tie.Start
+start c = c .before .before .before .before .before
+
+digits : (c : tie.After-digit4) → hex (start c .args .x) ≡ c .before .before .before .digit .result ∷ c .before .before .digit2 .result ∷ c .before .digit3 .result ∷ c .digit4 .result ∷ []
+digits c = hex-digits (start c .args .x) _ _ _ _ (c .before .before .before .digit .ensures) (c .before .before .digit2 .ensures) (c .before .digit3 .ensures) (c .digit4 .ensures)
 
 digit-requires : tie.Need-digit-requires
 digit-requires c κs = search needs
@@ -20,26 +29,13 @@ slice-aggregate-copy : tie.Need-slice-aggregate-copy
 slice-aggregate-copy c = search needs
 
 copy-requires : tie.Need-copy-requires
-copy-requires c κs =
-    let k1 = c .before .before in
-    let k2 = k1 .before in
-    let k3 = k2 .before in
-    let k4 = k3 .before in
-    let start = k4 .before .before in
-    rw (hex-digits (start .args .x) _ _ _ _ (k4 .digit .ensures) (k3 .digit2 .ensures) (k2 .digit3 .ensures) (k1 .digit4 .ensures)) at (start .pre)
+copy-requires c κs = let k = c .before .before in rw (digits k) at (start k .pre)
 
 same-length : tie.Need-same-length
 same-length c = search needs
 
 returns : tie.Need-returns
-returns c =
-    let k1 = c .before .before in
-    let k2 = k1 .before .before .before in
-    let k3 = k2 .before in
-    let k4 = k3 .before in
-    let k5 = k4 .before in
-    let start = k5 .before .before in
-    rw (hex-digits (start .args .x) _ _ _ _ (k5 .digit .ensures) (k4 .digit2 .ensures) (k3 .digit3 .ensures) (k2 .digit4 .ensures)) (k1 .copy .ensures)
+returns c = let k = c .before .before in rw (digits (k .before .before .before)) (k .copy .ensures)
 
 pub put-hex-spec : {M : Type 1} → statement M
 put-hex-spec =
