@@ -53,26 +53,20 @@ module _ (file : List ℕ) (s : Session) (ps : List Pair) (bytes : Bytes file) (
       → output (changed s ps) x i ≡ output (loadedNet s) x i
   board-outputs = unharmed (loadedNet s) (changed s ps) (exact file s ps (record { loads = loads; sound = sound-i (loadedNet s) [] rs sound }) .granted .0 h)
 
--- one board behind another: M is the first board with gates changed
+-- a board K behind M, which is L with gates changed: where K keeps M's outputs and M those of L, K keeps those of L
 step : (L M K : Net) (gs : List Gate) → M ≡ withGates L gs
     → ((x i : ℕ) → x < patterns L → i < length (L .outputs) → excludedFor L i x ≡ false → output M x i ≡ output L x i)
-    → K .inputs ≡ M .inputs → K .outputs ≡ M .outputs
     → ((x i : ℕ) → x < patterns M → i < length (M .outputs) → excludedFor M i x ≡ false → output K x i ≡ output M x i)
-    → (K .inputs ≡ L .inputs) × (K .outputs ≡ L .outputs)
-    × ((x i : ℕ) → x < patterns L → i < length (L .outputs) → excludedFor L i x ≡ false → output K x i ≡ output L x i)
+    → (x i : ℕ) → x < patterns L → i < length (L .outputs) → excludedFor L i x ≡ false → output K x i ≡ output L x i
 unfolding excludedFor excluded
-step L M K gs e f p q g = (
-  p ∙ ap (λ (N : Net). N .inputs) e,
-  q ∙ ap (λ (N : Net). N .outputs) e,
-  λ x i hx hi k.
-      g x i (subst (λ (N : Net). x < patterns N) (sym e) hx) (subst (λ (N : Net). i < length (N .outputs)) (sym e) hi) (subst (λ (N : Net). excludedFor N i x ≡ false) (sym e) k)
-      ∙ f x i hx hi k,
-)
+step L M K gs e f g x i hx hi k =
+    g x i (subst (λ (N : Net). x < patterns N) (sym e) hx) (subst (λ (N : Net). i < length (N .outputs)) (sym e) hi) (subst (λ (N : Net). excludedFor N i x ≡ false) (sym e) k)
+    ∙ f x i hx hi k
 
 -- ## 6
 
 pub chained : ChainOf
-chained file s [] bytes loads = record { session = s; loads = loads; inputs = refl; outs = refl; same = λ x i _ _ _. refl }
+chained file s [] bytes loads = record { session = s; loads = loads; stays = refl; same = λ x i _ _ _. refl }
 chained file s (ps ∷ orders) bytes loads =
     by-cases (grants (replyOf file ps))
     (λ h.
@@ -80,11 +74,13 @@ chained file s (ps ∷ orders) bytes loads =
     let c = chained (boardOf file ps) (b .session) orders (board-bytes file s ps bytes loads h) (b .loads) in
     let k = replaced-keeps (replacements ps) (loadedNet s) in
     let m : loadedNet (b .session) ≡ withGates (loadedNet s) (k .0) = b .loaded ∙ k .1 in
-    let t = step (loadedNet s) (loadedNet (b .session)) (loadedNet (c .session)) (k .0) m
-    (λ x i hx hi e. ap (λ (N : Net). output N x i) (b .loaded) ∙ board-outputs file s ps bytes loads h x i hx hi e)
-    (c .inputs) (c .outs) (c .same)
-    in
-    record { session = c .session; loads = rw h (c .loads); inputs = t .0; outs = t .1; same = t .2 })
+    record {
+      session = c .session;
+      loads = rw h (c .loads);
+      stays = c .stays ∙ ap (λ (N : Net). withGates N (loadedNet (c .session) .gates)) m;
+      same = step (loadedNet s) (loadedNet (b .session)) (loadedNet (c .session)) (k .0) m
+          (λ x i hx hi e. ap (λ (N : Net). output N x i) (b .loaded) ∙ board-outputs file s ps bytes loads h x i hx hi e) (c .same);
+    })
     (λ h.
     let c = chained file s orders bytes loads in
-    record { session = c .session; loads = rw h (c .loads); inputs = c .inputs; outs = c .outs; same = c .same })
+    record { session = c .session; loads = rw h (c .loads); stays = c .stays; same = c .same })

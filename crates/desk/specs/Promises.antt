@@ -9,7 +9,7 @@ use Rattle.network.specs.declared.Session.{Session}
 use Rattle.network.specs.declared.Refusal.{Refusal}
 use Rattle.network.specs.declared.Answer.the-variants.{Done, Refused}
 use Rattle.network.specs.Bounds.{mostGates, mostFileBytes}
-use Rattle.network.specs.Net.{Net, patterns, excludedFor, output, Replacement, signals, replaced}
+use Rattle.network.specs.Net.{Net, patterns, excludedFor, output, Replacement, signals, withGates, replaced}
 use Rattle.network.specs.Flat.{loadedNet, currentNet}
 use Rattle.network.specs.Tests.{isDone, member}
 use Rattle.network.specs.Load.{loadOf, loadDone}
@@ -96,12 +96,11 @@ abbrev pub chain : List ℕ → List (List Pair) → List ℕ
 chain file [] = file
 chain file (ps ∷ orders) = chain (next file ps) orders
 
--- the last board loads, and its outputs are those of the first
+-- the last board loads; but for its gates it is the first, with the same patterns excluded; and its outputs are those of the first
 pub record Chained (file : List ℕ) (s : Session) (orders : List (List Pair)) : Type 0 where
   pub session : Session
   pub loads : loadOf (chain file orders) ≡ loadDone session
-  pub inputs : loadedNet session .inputs ≡ loadedNet s .inputs
-  pub outs : loadedNet session .outputs ≡ loadedNet s .outputs
+  pub stays : loadedNet session ≡ withGates (loadedNet s) (loadedNet session .gates)
   pub same : (x i : ℕ) → x < patterns (loadedNet s) → i < length (loadedNet s .outputs) → excludedFor (loadedNet s) i x ≡ false
       → output (loadedNet session) x i ≡ output (loadedNet s) x i
 
