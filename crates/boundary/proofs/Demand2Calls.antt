@@ -1,5 +1,5 @@
 -- Demand 2 of the calls: what each gives where nothing refuses it, verdicts, and a network written and read again. Assumes nothing.
-use mathlib.Core.Path.{_≡_, refl, sym, ap, ap₂, _∙_}
+use mathlib.Core.Path.{_≡_, refl, sym, ap, ap₂, _∙_, subst}
 use mathlib.Core.Logic.{_⊎_, ⊎-elim, _↔_}
 use mathlib.Core.Bool.{true}
 use mathlib.Core.List.{List, [], _∷_}
@@ -11,6 +11,8 @@ use lib.ListN.{length, getD, take, drop, length-take, List·getD-eq-default}
 use lib.Seq.{take-append-seam, getD-take, getD-drop}
 use borrow.Author.Tests.{le-ltb, ne-eqb}
 use Rattle.bits.specs.Lists.{overwritten}
+use Rattle.bits.specs.Bit.{bit}
+use Rattle.bits.proofs.Logic.{clash}
 use Rattle.network.specs.declared.Session.{Session}
 use Rattle.network.specs.declared.Loaded.{Loaded}
 use Rattle.network.specs.declared.Refusal.{Refusal}
@@ -19,9 +21,10 @@ use Rattle.network.specs.declared.Answer.{Answer}
 use Rattle.network.specs.declared.Answer.the-variants.{Done, Refused}
 use Rattle.network.specs.Bounds.{excludedWords}
 use Rattle.network.specs.Net.{Net, isGate, patterns, Replacement, signals, newTables}
+use Rattle.network.specs.DontCares.{NeverGiven}
 use Rattle.network.specs.Flat.{loadedNet, currentNet}
 use Rattle.network.specs.Refusals.{numberOf, said}
-use Rattle.network.specs.Tests.{first}
+use Rattle.network.specs.Tests.{member, first}
 use Rattle.network.specs.State.{stateTest}
 use Rattle.network.specs.Valid.{Shaped}
 use Rattle.network.specs.Load.{loadOf}
@@ -46,7 +49,7 @@ use Rattle.boundary.specs.Promises.{Gives, Words, Asks, Demand2Calls}
 use Rattle.boundary.proofs.Names.{number-said, zero-done, NamesMost}
 use Rattle.boundary.proofs.Tested.{room-i, session-by, fillAnswer, fill-by, words-state, words-sized}
 use Rattle.boundary.proofs.Leaves.{refused}
-use Rattle.boundary.proofs.Demand1Calls.{tables-length, hiddenCounts, hidden-length, loaded-room}
+use Rattle.boundary.proofs.Demand1Calls.{tables-length, hiddenCounts, hidden-length, loaded-room, demand1-calls}
 
 -- ## Where no test refuses
 
@@ -238,6 +241,17 @@ module _ (ws file out session : List ℕ) (h : Words ws) (e : writeCall ws file 
       ap (λ (l : Left). sessionIn (l .buffer)) is ∙ packed-back t (drop (length (packedOf t)) session) (loaded-sized bytes t (back .reads)) in
       (ap (λ (l : Left). l .number) is, ap loadedNet held ∙ back .loaded, ap currentNet held ∙ back .current)
 
+-- ## The CDC among the words of a gate's tables
+
+-- 0 shows that they stand in out
+tables-shown : (ws : List ℕ) (gate : ℕ) (out : List ℕ) → tablesCall ws gate out .number ≡ 0
+    → tablesCall ws gate out .out ≡ overwritten (tableWords (gateTables (sessionIn ws) gate)) out
+tables-shown ws gate out z =
+    ⊎-elim (λ g. ap (λ (l : Left). l .out) (g .2))
+    (λ r. let e : r .0 ≡ 0 = sym (ap (λ (l : Left). l .number) (r .2)) ∙ z in
+    clash (ap (λ (n : ℕ). member n (9 ∷ 10 ∷ 11 ∷ [])) (sym e) ∙ r .1) refl)
+    (demand1-calls .tables ws gate out)
+
 -- ## All the calls
 
 pub demand2-calls : Demand2Calls
@@ -250,6 +264,10 @@ demand2-calls = record {
   patternSets = λ ws words v. let s = sessionIn ws in fill-given ws v 0 [] (setWords s (s .m)) words [] refl (omega arith);
   hidden = λ ws out v. let s = sessionIn ws in room-given ws v (s .m) (hiddenCounts s) out (hidden-length s);
   write = write-gives;
+  cdcExact = λ ws gate out z. let C = currentNet (sessionIn ws) in
+      subst (λ (o : List ℕ). NeverGiven C gate (getD o 1 0)) (sym (tables-shown ws gate out z)) (demand2 .cdcExact C gate);
+  cdcFull = λ ws gate t out z. let C = currentNet (sessionIn ws) in
+      subst (λ (o : List ℕ). bit (getD o 1 0) t ≡ true → bit (getD o 2 0) t ≡ true) (sym (tables-shown ws gate out z)) (demand2 .cdcFull C gate t);
   harmful = harmful-is;
   shown = λ ws rs out x i j o. shown-is ws rs out j o x i;
   harmless = harmless-is;

@@ -15,7 +15,7 @@ use Rattle.network.specs.declared.Refusal.{Refusal}
 use Rattle.network.specs.declared.Answer.{Answer}
 use Rattle.network.specs.declared.Answer.the-variants.{Done}
 use Rattle.network.specs.Net.{Net, isGate, entries, patterns, excludedFor, output, Replacement}
-use Rattle.network.specs.DontCares.{sdc, cdc, full}
+use Rattle.network.specs.DontCares.{sdc, cdc, NeverGiven, full}
 use Rattle.network.specs.Compatible.{compatibleCount, openTable}
 use Rattle.network.specs.Flat.{loadedNet, currentNet}
 use Rattle.network.specs.Refusals.{numberOf, said}
@@ -101,6 +101,12 @@ pub record Demand2Calls : Type 0 where
       → Gives (hiddenCall ws out) [] [] (places (sessionIn ws .m) (λ g. compatibleCount (loadedNet (sessionIn ws)) (sessionIn ws .n + g))) out
   pub write : (ws file out : List ℕ) → wordsTest ws ≡ Done → 1 ≤ length out → length (bytesOf (sessionIn ws)) ≤ length file
       → Gives (writeCall ws file out) (bytesOf (sessionIn ws)) file (length (bytesOf (sessionIn ws)) ∷ []) out
+  -- request Two, of the words that a call gave: an entry is in the CDC exactly when no pattern outside E gives it
+  pub cdcExact : (ws : List ℕ) (gate : ℕ) (out : List ℕ) → let l = tablesCall ws gate out in
+      l .number ≡ 0 → NeverGiven (currentNet (sessionIn ws)) gate (getD (l .out) 1 0)
+  -- and each of these is in the full table
+  pub cdcFull : (ws : List ℕ) (gate t : ℕ) (out : List ℕ) → let l = tablesCall ws gate out in
+      l .number ≡ 0 → bit (getD (l .out) 1 0) t ≡ true → bit (getD (l .out) 2 0) t ≡ true
   -- harm is found exactly when some pattern that is not excluded changes an output with all of the list in place
   pub harmful : (ws : List ℕ) (rs : List Replacement) (out : List ℕ) → Asks ws rs → 2 ≤ length out
       → (verdictCallOn ws rs out .number ≡ 14) ↔ ((x : ℕ) × (i : ℕ) × Changes (sessionIn ws) rs x i)

@@ -14,7 +14,7 @@ use Rattle.bits.specs.Bounds.{rowWords, gatePlaces}
 use Rattle.bits.specs.Range.{_⇒_, every, any}
 use Rattle.bits.specs.Bit.{bit, tableOf, column, entryAt}
 use Rattle.bits.specs.Cut.{Framed}
-use Rattle.bits.proofs.Ranges.{and-assoc, and-true, any-ext, every-ext, bit-table, table-lt, table-ext}
+use Rattle.bits.proofs.Ranges.{and-assoc, any-ext, every-ext, bit-table, table-lt, table-ext}
 use Rattle.bits.proofs.Cuts.{live-at, every-not, table-or, table-none}
 use Rattle.network.specs.Bounds.{mostGates}
 use Rattle.network.specs.Net.{Gate, Net, arity, gate, entry, values, entryOf, occurs, excluded}
@@ -26,7 +26,7 @@ use Rattle.network.proofs.Earlier.{gate-is}
 use Rattle.entries.proofs.By.{by-rest}
 use Rattle.simulate.specs.Simulated.{wordsAt, Rows}
 use Rattle.observability.specs.Odc.{OdcAt}
-use Rattle.dontcares.specs.Tabled.{Tabled}
+use Rattle.dontcares.specs.Tabled.{Comes, Tabled}
 
 -- ## Entries, word after word
 
@@ -92,16 +92,17 @@ module _ (ks fs ts ex outs : List ℕ) (n m p g : ℕ) (hg : g < m) where
         here : ℕ → ℕ → ℕ → Bool
         here t w b = bit live b && (test (w * 64 + b) && eqb (entryOf N (n + g) (w * 64 + b)) t)
 
-    pub cdc-is : (keep : List ℕ) (x : ℕ) → ((w : ℕ) → w < count → getD keep w 0 ≡ live) → x ≡ tableOf (2 ^ getD ks g 0) (λ t. any count (delivers ks fs ts rows keep g t))
+    come-at : (come : List ℕ) → Comes ex come count live → (w b : ℕ) → w < count → b < 64 → bit (getD come w 0) b ≡ (bit live b && not (excluded N (w * 64 + b)))
+    unfolding excluded netOf
+    come-at come c w b hw hb =
+        c w b hw hb ∙ ap₂ (λ (i j : ℕ). bit live b && not (bit (getD ex i 0) j)) (omega arith) (omega arith)
+
+    pub cdc-is : (come : List ℕ) (x : ℕ) → Comes ex come count live → x ≡ tableOf (2 ^ getD ks g 0) (λ t. any count (delivers ks fs ts rows come g t))
         → 2 ^ 2 ^ getD ks g 0 - 1 - x ≡ cdc N (n + g)
     unfolding cdc occurs netOf
-    cdc-is keep x all e =
-        left-out keep (λ y. true) x (λ w b hw hb. ap (λ (v : ℕ). bit v b) (all w hw) ∙ sym (and-true (bit live b))) e
-        ∙ ap (λ (k : ℕ). tableOf k (λ t. not (any (2 ^ n) (λ y. true && eqb (entryOf N (n + g) y) t)))) (sym entries-is)
-
-    excluded-at : (w b : ℕ) → b < 64 → excluded N (w * 64 + b) ≡ bit (getD ex w 0) b
-    unfolding excluded netOf
-    excluded-at w b hb = ap₂ (λ (i j : ℕ). bit (getD ex i 0) j) (omega arith) (omega arith)
+    cdc-is come x c e =
+        left-out come (λ y. not (excluded N y)) x (come-at come c) e
+        ∙ ap (λ (k : ℕ). tableOf k (λ t. not (any (2 ^ n) (λ y. not (excluded N y) && eqb (entryOf N (n + g) y) t)))) (sym entries-is)
 
     -- a bit of a word of a set
     set-bit : (p : ℕ → Bool) (w x b : ℕ) → w < count → b < 64 → x ≡ wordOf n p w → bit x b ≡ (bit live b && p (w * 64 + b))
@@ -116,13 +117,13 @@ module _ (ks fs ts ex outs : List ℕ) (n m p g : ℕ) (hg : g < m) where
     imp-not false true = refl
     imp-not false false = refl
 
-    pub full-is : (keep l : List ℕ) (x : ℕ) → OdcAt N l n g count
-        → ((w b : ℕ) → w < count → b < 64 → bit (getD keep w 0) b ≡ (bit live b && not (bit (getD ex w 0) b || bit (getD l (rowWords * g + w) 0) b)))
+    pub full-is : (come keep l : List ℕ) (x : ℕ) → Comes ex come count live → OdcAt N l n g count
+        → ((w b : ℕ) → w < count → b < 64 → bit (getD keep w 0) b ≡ (bit (getD come w 0) b && not (bit (getD l (rowWords * g + w) 0) b)))
         → x ≡ tableOf (2 ^ getD ks g 0) (λ t. any count (delivers ks fs ts rows keep g t))
         → 2 ^ 2 ^ getD ks g 0 - 1 - x ≡ full N (n + g)
     unfolding full netOf OdcAt
-    full-is keep l x at h e =
-        left-out keep free x (λ w b hw hb. h w b hw hb ∙ ap₂ (λ (c d : Bool). bit live b && not (c || d)) (sym (excluded-at w b hb)) (set-bit (odc N (n + g)) w (getD l (rowWords * g + w) 0) b hw hb (at w hw))
+    full-is come keep l x c at h e =
+        left-out keep free x (λ w b hw hb. h w b hw hb ∙ ap₂ (λ (i q : Bool). i && not q) (come-at come c w b hw hb) (set-bit (odc N (n + g)) w (getD l (rowWords * g + w) 0) b hw hb (at w hw))
         ∙ inside (bit live b) (excluded N (w * 64 + b)) (odc N (n + g) (w * 64 + b))) e
         ∙ table-ext (2 ^ getD ks g 0) (λ t. not (any (2 ^ n) (λ y. free y && eqb (entryOf N (n + g) y) t))) rule
         (λ t ht. sym (every-not (2 ^ n) (λ y. free y && eqb (entryOf N (n + g) y) t))
@@ -136,8 +137,9 @@ module _ (ks fs ts ex outs : List ℕ) (n m p g : ℕ) (hg : g < m) where
         rule : ℕ → Bool
         rule t = every (2 ^ n) (λ y. eqb (entryOf N (n + g) y) t ⇒ (excluded N y || odc N (n + g) y))
 
-        inside : (l e q : Bool) → (l && not (e || (l && q))) ≡ (l && not (e || q))
-        inside true e q = refl
+        inside : (l e q : Bool) → ((l && not e) && not (l && q)) ≡ (l && not (e || q))
+        inside true true q = refl
+        inside true false q = refl
         inside false e q = refl
 
 -- ## The tables of the gates from a on

@@ -1,8 +1,10 @@
 -- Arrays that hold the CDC and the full table of each gate. Assumes nothing.
 use mathlib.Core.Path.{_≡_}
+use mathlib.Core.Bool.{_&&_, not}
 use mathlib.Core.List.{List}
 use Prim.Native.Nat.{ℕ, _+_, _≤_, _<_}
 use lib.ListN.{getD}
+use Rattle.bits.specs.Bit.{bit}
 use Rattle.bits.specs.Cut.{Framed}
 use Rattle.network.specs.Net.{Net}
 use Rattle.network.specs.DontCares.{cdc, full}
@@ -16,12 +18,16 @@ pub record Tabled (N : Net) (cdcs fulls : List ℕ) (n a e : ℕ) : Type 0 where
   pub at : (g : ℕ) → a ≤ g → g < e → (getD cdcs g 0 ≡ cdc N (n + g)) × (getD fulls g 0 ≡ full N (n + g))
   pub past : (g : ℕ) → e ≤ g → (getD cdcs g 0 ≡ 0) × (getD fulls g 0 ≡ 0)
 
+-- come has, of count words, the live places that the excluded words do not have
+abbrev pub Comes : (excluded come : List ℕ) (count live : ℕ) → Type 0
+Comes excluded come count live = (w b : ℕ) → w < count → b < 64 → bit (getD come w 0) b ≡ (bit live b && not (bit (getD excluded w 0) b))
+
 -- Of every network that has these rows of values and these words of the ODC:
 
--- c and f are the tables of gate g
-abbrev pub GateTabled : (ks fs excluded rows odcs : List ℕ) (count live g c f : ℕ) → Type 0
-GateTabled ks fs excluded rows odcs count live g c f =
-    (ts outs : List ℕ) (n m p : ℕ) → g < m → NetOk ks fs n m → Rows ks fs ts rows n m count → Framed n count live
+-- c and f are the tables of gate g, where these are the patterns that come
+abbrev pub GateTabled : (ks fs rows come odcs : List ℕ) (count g c f : ℕ) → Type 0
+GateTabled ks fs rows come odcs count g c f =
+    (ts excluded outs : List ℕ) (n m p live : ℕ) → g < m → NetOk ks fs n m → Rows ks fs ts rows n m count → Framed n count live → Comes excluded come count live
     → OdcAt (netOf ks fs ts n m excluded outs p) odcs n g count
     → (c ≡ cdc (netOf ks fs ts n m excluded outs p) (n + g)) × (f ≡ full (netOf ks fs ts n m excluded outs p) (n + g))
 

@@ -1,6 +1,6 @@
-// Of the current network: SDC, CDC and full tables, rules 1, 2 and 4, from rows of words.
+// Of the current network: SDC, CDC and full tables, rules 1, 2 and 4, from rows of words. The CDC is request Two's.
 ghost use mathlib.Core.Path.{_≡_};
-ghost use mathlib.Core.Bool.{_&&_, _||_, not};
+ghost use mathlib.Core.Bool.{_&&_, not};
 ghost use mathlib.Core.List.{List};
 ghost use Prim.Native.Nat.{ℕ, _+_, _*_, _%_, _^_, _<_, _≤_};
 ghost use lib.Dec.{eqb};
@@ -18,7 +18,7 @@ ghost use Rattle.network.specs.State.{stateFault};
 ghost use Rattle.network.specs.Valid.{GateOk};
 ghost use Rattle.simulate.specs.Simulated.{wordsAt};
 ghost use Rattle.observability.specs.Odc.{OdcAt};
-ghost use Rattle.dontcares.specs.Tabled.{Tabled, GateTabled, GatesTabled};
+ghost use Rattle.dontcares.specs.Tabled.{Comes, Tabled, GateTabled, GatesTabled};
 use bits::ROW_WORDS;
 use network::EXCLUDED_WORDS;
 use network::FANIN_PLACES;
@@ -27,21 +27,34 @@ use network::MOST_GATES;
 use network::SIGNAL_WORDS;
 use network::Session;
 
-// The live places of each word that lie neither in E nor in gate g's ODC.
-fn keep_row(
-    excluded: &[u64; EXCLUDED_WORDS],
-    odc: &[u64; GATE_WORDS],
-    live: u64,
-    count: usize,
-    g: usize,
-) -> [u64; ROW_WORDS]
-    requires { ⌜ (g < mostGates) × (count ≤ rowWords) ⌝ }
-    ensures { λ l. ⌜ ((w b : ℕ) → w < count → b < 64 → bit (getD l w 0) b ≡ (bit live b && not (bit (getD (now (excluded .entry)) w 0) b || bit (getD (now (odc .entry)) (rowWords * g + w) 0) b))) ⌝ }
+// The patterns that come: the live places of each word that do not lie in E.
+fn come_row(excluded: &[u64; EXCLUDED_WORDS], live: u64, count: usize) -> [u64; ROW_WORDS]
+    requires { ⌜ count ≤ rowWords ⌝ }
+    ensures { λ l. ⌜ Comes (now (excluded .entry)) l count live ⌝ }
 {
     let mut l = [0u64; ROW_WORDS];
     let mut w = 0;
     while w < count {
-        l[w] = live & bits::complement(excluded[w] | odc[ROW_WORDS * g + w]);
+        l[w] = live & bits::complement(excluded[w]);
+        w += 1;
+    }
+    l
+}
+
+// Those of them that do not lie in gate g's ODC.
+fn keep_row(
+    come: &[u64; ROW_WORDS],
+    odc: &[u64; GATE_WORDS],
+    count: usize,
+    g: usize,
+) -> [u64; ROW_WORDS]
+    requires { ⌜ (g < mostGates) × (count ≤ rowWords) ⌝ }
+    ensures { λ l. ⌜ ((w b : ℕ) → w < count → b < 64 → bit (getD l w 0) b ≡ (bit (getD (now (come .entry)) w 0) b && not (bit (getD (now (odc .entry)) (rowWords * g + w) 0) b))) ⌝ }
+{
+    let mut l = [0u64; ROW_WORDS];
+    let mut w = 0;
+    while w < count {
+        l[w] = come[w] & bits::complement(odc[ROW_WORDS * g + w]);
         w += 1;
     }
     l
@@ -81,24 +94,22 @@ pub struct GateTables {
     pub full: u64,
 }
 
-// The tables of gate g, from the rows of all signals and the words of its ODC.
+// The tables of gate g, from the rows of all signals, the patterns that come and the words of its ODC.
 fn tables_at(
     arity: &[u8; MOST_GATES],
     fanins: &[u8; FANIN_PLACES],
-    excluded: &[u64; EXCLUDED_WORDS],
     rows: &[u64; SIGNAL_WORDS],
+    come: &[u64; ROW_WORDS],
     odc: &[u64; GATE_WORDS],
     count: usize,
-    live: u64,
     g: usize,
 ) -> GateTables
     requires { ⌜ (g < mostGates) × (count ≤ rowWords) ⌝ }
     requires { ⌜ GateOk (now arity) (now fanins) g mostSignals ⌝ }
-    ensures { λ r. ⌜ GateTabled (now (arity .entry)) (now (fanins .entry)) (now (excluded .entry)) (now (rows .entry)) (now (odc .entry)) count live g (r .cdc) (r .full) ⌝ }
+    ensures { λ r. ⌜ GateTabled (now (arity .entry)) (now (fanins .entry)) (now (rows .entry)) (now (come .entry)) (now (odc .entry)) count g (r .cdc) (r .full) ⌝ }
 {
-    let all = [live; ROW_WORDS];
-    let came = delivered(arity, fanins, rows, &all, count, g);
-    let keep = keep_row(excluded, odc, live, count, g);
+    let came = delivered(arity, fanins, rows, come, count, g);
+    let keep = keep_row(come, odc, count, g);
     let seen = delivered(arity, fanins, rows, &keep, count, g);
     let c = entries::entry_count(network::place(arity[g]));
     let cdc = bits::complement_within(c, came);
@@ -131,11 +142,12 @@ fn tables_of(
     requires { ⌜ ((g : ℕ) → g < e → GateOk (now arity) (now fanins) g mostSignals) ⌝ }
     ensures { λ r. ⌜ GatesTabled (now (arity .entry)) (now (fanins .entry)) (now (excluded .entry)) (now (rows .entry)) (now (odc .entry)) count live a e (r .cdc) (r .full) e ⌝ }
 {
+    let come = come_row(excluded, live, count);
     let mut cdc = [0u64; MOST_GATES];
     let mut full = [0u64; MOST_GATES];
     let mut g = a;
     while g < e {
-        let t = tables_at(arity, fanins, excluded, rows, odc, count, live, g);
+        let t = tables_at(arity, fanins, rows, &come, odc, count, g);
         cdc[g] = t.cdc;
         full[g] = t.full;
         g += 1;

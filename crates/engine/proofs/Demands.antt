@@ -37,6 +37,7 @@ use Rattle.network.proofs.Lists.{verdict-is, pair-exact-of, judged-of, faulted-
 use Rattle.network.proofs.ByTest.{room-by, state-by, gate-by, table-by, closed-by, harm-by, lengths-by, pairs-by}
 use Rattle.network.proofs.Demand3.{demand3-of, rule4-of}
 use Rattle.network.proofs.Together.{together-of}
+use Rattle.network.proofs.Cdc.{cdc-exact, cdc-full, cdc-plain}
 use Rattle.network.proofs.Inside.{inside-of}
 use Rattle.roundtrip.proofs.RoundTrip.{round-trip}
 use Rattle.engine.specs.Demands.{Ends, Demand1, allInPlace, Changes, Judged, Reached, Demand2, Demand3}
@@ -147,6 +148,9 @@ pub demand2 : Demand2
 unfolding patternSetsOf writeOf writtenOf
 demand2 = record {
   tables = λ s g v. tables-are s v g;
+  cdcExact = cdc-exact;
+  cdcFull = cdc-full;
+  cdcPlain = cdc-plain;
   patternSets = λ s buffer. fills-done s (setWords s (s .m)) buffer;
   counts = λ s g v. counts-are s v g;
   harmful = harmful-is;

@@ -3,18 +3,21 @@
 -- verdict verdictOf, write writtenOf, counts countsOf, load_counted countedOf.
 use mathlib.Core.Path.{_≡_}
 use mathlib.Core.Logic.{_⊎_, _↔_}
-use mathlib.Core.Bool.{true}
+use mathlib.Core.Bool.{true, false, not}
 use mathlib.Core.List.{List, [], _∷_}
 use Prim.Native.Nat.{ℕ, _+_, _-_, _<_, _≤_}
+use lib.Dec.{eqb}
 use lib.ListN.{length, getD}
+use Rattle.bits.specs.Range.{any}
+use Rattle.bits.specs.Bit.{bit, tableOf}
 use Rattle.bits.specs.Lists.{Bytes, overwritten}
 use Rattle.network.specs.declared.Session.{Session}
 use Rattle.network.specs.declared.Refusal.{Refusal}
 use Rattle.network.specs.declared.Answer.the-variants.{Done, Refused}
 use Rattle.network.specs.declared.TablesAnswer.the-variants as tables
 use Rattle.network.specs.declared.WriteAnswer.the-variants as write
-use Rattle.network.specs.Net.{Net, isGate, patterns, Replacement, replaced}
-use Rattle.network.specs.DontCares.{sdc, cdc, full, harms}
+use Rattle.network.specs.Net.{Net, isGate, entries, patterns, excluded, entryOf, Replacement, replaced}
+use Rattle.network.specs.DontCares.{sdc, cdc, NeverGiven, full, harms}
 use Rattle.network.specs.Compatible.{compatibleCount, openTable}
 use Rattle.network.specs.Flat.{loadedNet, currentNet}
 use Rattle.network.specs.Valid.{Shaped}
@@ -96,6 +99,13 @@ pub record Demand2 : Type 0 where
       → patternSetsOf s buffer ≡ record { answer = Done; buffer = overwritten (setWords s (s .m)) buffer }
   -- and the number of patterns in H of each gate
   pub counts : (s : Session) (g : ℕ) → stateTest s ≡ Done → g < s .m → getD (countsOf s .counts) g 0 ≡ compatibleCount (loadedNet s) (s .n + g)
+  -- request Two, of every network: an entry is in the CDC exactly when no pattern outside E gives it
+  pub cdcExact : (N : Net) (g : ℕ) → NeverGiven N g (cdc N g)
+  -- an entry of the CDC is one of the full table
+  pub cdcFull : (N : Net) (g t : ℕ) → bit (cdc N g) t ≡ true → bit (full N g) t ≡ true
+  -- where no pattern is excluded, the CDC is 01's: the entries that no pattern gives
+  pub cdcPlain : (N : Net) (g : ℕ) → ((x : ℕ) → x < patterns N → excluded N x ≡ false)
+      → cdc N g ≡ tableOf (entries N g) (λ t. not (any (patterns N) (λ x. eqb (entryOf N g x) t)))
   -- harm is found exactly when some pattern that is not excluded changes an output with all of the list in place
   pub harmful : (s : Session) (rs : List Replacement) → Judged s rs
       → ((x : ℕ) × (i : ℕ) × (said (verdictOn s rs) ≡ 14 ∷ x ∷ i ∷ [])) ↔ ((x : ℕ) × (i : ℕ) × Changes s rs x i)

@@ -1,6 +1,7 @@
 -- The cases of specs/Cases.antt and specs/ListCases.antt hold, by computation. Assumes nothing.
 use mathlib.Core.Path.{refl}
 use mathlib.Core.List.{map}
+use Prim.Native.Nat.{ℕ}
 use Rattle.bits.specs.Bit.{bit}
 use Rattle.bits.specs.Lists.{Hold}
 use Rattle.network.specs.Net.{isGate, excluded, excludedFor, occurs, patternOrder, entry, values}
@@ -12,9 +13,9 @@ use Rattle.network.specs.State.{gateFault, stateFault, stateTest}
 use Rattle.network.specs.Load.{outputRecord, readOutputs, gateRecord, readGates, excludedRecord, readBody, headerRecord, readOf, loadOf}
 use Rattle.network.specs.Write.{headerBytes, excludedBytes, gateBytes, outputBytes, bytesOf}
 use Rattle.network.specs.Calls.{gateTest, tableTest, alters, closedTest, harmTest, exchangeAnswer, exchangeOf, lengthsTest, pairTest, verdictOf, tablesOf, writeOf}
-use Rattle.network.specs.Cases.{marked, worked, wide, multiOutput, sizes, refused, readSaid, damaged}
+use Rattle.network.specs.Cases.{marked, worked, headLines, neverGiven, wide, multiOutput, sizes, refused, readSaid, damaged}
 use Rattle.network.specs.ListCases.{lists}
 
-pub cases-hold : Hold marked × Hold worked × Hold wide × Hold multiOutput × Hold sizes × Hold refused × Hold (map readSaid damaged) × Hold lists
+pub cases-hold : Hold marked × Hold worked × ((t : ℕ) → Hold (headLines t)) × Hold neverGiven × Hold wide × Hold multiOutput × Hold sizes × Hold refused × Hold (map readSaid damaged) × Hold lists
 unfolding bit isGate excluded excludedFor occurs patternOrder entry values sdc cdc valuesInverted odc full harms agree constant turns freeFanins atOutputs compatibleFrom compatible compatibleCount delivers closed openTable openTables gateAt gatesOf netOf loadedNet currentNet markTest faninTest faninsTest excludedTest gateFault stateFault stateTest outputRecord readOutputs gateRecord readGates excludedRecord readBody headerRecord readOf loadOf headerBytes excludedBytes gateBytes outputBytes bytesOf gateTest tableTest alters closedTest harmTest exchangeAnswer exchangeOf lengthsTest pairTest verdictOf tablesOf writeOf
-cases-hold = (refl, refl, refl, refl, refl, refl, refl, refl)
+cases-hold = (refl, refl, λ t. refl, refl, refl, refl, refl, refl, refl, refl)

@@ -6,6 +6,7 @@ pub mod Earlier
 pub mod TestLaws
 pub mod Said
 pub mod Cases
+pub mod Cdc
 pub mod Harm
 pub mod ByTest
 pub mod Lists

@@ -12,12 +12,13 @@ use Rattle.network.specs.Bounds.{mostGates, mostOutputs, mostFanins, mos
 use Rattle.network.specs.Net.{Net, gate, patterns, Replacement, replaced}
 use Rattle.network.specs.DontCares.{sdc, cdc, odc, full}
 use Rattle.network.specs.Compatible.{freeFanins, compatible, compatibleCount, openTable}
+use Rattle.network.specs.Flat.{currentNet}
 use Rattle.network.specs.Refusals.{said, saidTables, saidWrite}
 use Rattle.network.specs.Load.{readOf, loadOf}
 use Rattle.network.specs.Write.{bytesOf}
 use Rattle.network.specs.Calls.{exchangeOf, verdictOn, harmTest, tablesOf, writeOf, writeAnswer}
 use Rattle.network.specs.Sessions.{after}
-use Rattle.network.specs.Examples.{twinBytes, twinSession, twinNet, chainBytes, chainSession, wideBytes, wideSession, wideNet, multiOutputBytes, multiOutputSession, multiOutputNet, freeing, tourFirst, tourSecond, tour, sumOfProducts, controlThree, controlFour, observe, segment}
+use Rattle.network.specs.Examples.{twinBytes, twinSession, twinNet, chainBytes, chainSession, wideBytes, wideSession, wideNet, multiOutputBytes, multiOutputSession, multiOutputNet, freeing, tourFirst, tourSecond, tour, sumOfProducts, controlThree, controlFour, observe, segment, threeLines, noneComes, lastComes, zeroNever}
 
 -- ## Words for the cases
 
@@ -105,15 +106,39 @@ worked =
     ∷ (ofGate controlThree 4, 0x6996 ∷ 0x72 ∷ 0x72 ∷ 0x72 ∷ 0x0 ∷ 0x0 ∷ [])
     ∷ (ofGate controlFour 3, 0x1E ∷ 0x0 ∷ 0x0 ∷ 0x0 ∷ 0x0 ∷ 0xC0 ∷ [])
     ∷ (ofGate controlFour 4, 0x78 ∷ 0x0 ∷ 0x0 ∷ 0x0 ∷ 0x0 ∷ 0xC0 ∷ [])
-    ∷ (ofGate controlFour 5, 0x96696996 ∷ 0x5F0A ∷ 0xDF4A ∷ 0xDF4A ∷ 0x0 ∷ 0xC0 ∷ [])
+    ∷ (ofGate controlFour 5, 0x96696996 ∷ 0xDF4A ∷ 0xDF4A ∷ 0xDF4A ∷ 0x0 ∷ 0xC0 ∷ [])
     ∷ (ofGate observe 3, 0x96 ∷ 0x0 ∷ 0x8 ∷ 0x8 ∷ 0xC8 ∷ 0xC8 ∷ [])
     ∷ (ofGate observe 4, 0x4707B8F8 ∷ 0x9696 ∷ 0x9696 ∷ 0x1216 ∷ 0x0 ∷ 0x0 ∷ [])
-    ∷ (ofGate segment 4, 0xFC1203ED ∷ 0x0 ∷ 0xFC00 ∷ 0xFC00 ∷ 0x0 ∷ 0xFC00 ∷ [])
+    ∷ (ofGate segment 4, 0xFC1203ED ∷ 0xFC00 ∷ 0xFC00 ∷ 0xFC00 ∷ 0x0 ∷ 0xFC00 ∷ [])
     -- f may become b, or 1 once Z uses it, and not 0; X may not become a + b
     ∷ (loneSaid tourSecond (to 5 0xCC), [])
     ∷ (loneSaid tour (to 6 0xFF), [])
     ∷ (loneSaid tour (to 6 0x00), 14 ∷ 11 ∷ 0 ∷ [])
     ∷ (loneSaid tour (to 4 0xE), 14 ∷ 10 ∷ 0 ∷ [])
+    ∷ []
+
+-- ## Request Two of 02: an entry that excluded patterns alone give is in the CDC
+
+-- the request's own: the CDC of a gate with any table, over lines that never are 111
+abbrev pub headLines : ℕ → List (List ℕ × List ℕ)
+headLines t = (cdc (threeLines t) 3 ∷ [], 0x80 ∷ []) ∷ []
+
+abbrev pub neverGiven : List (List ℕ × List ℕ)
+neverGiven =
+    (ofGate (threeLines 0x96) 3, 0x6996 ∷ 0x80 ∷ 0x80 ∷ 0x80 ∷ 0x0 ∷ 0x80 ∷ [])
+    -- no pattern comes: every entry of every gate
+    ∷ (ofGate noneComes 2, 0x78 ∷ 0xF ∷ 0xF ∷ 0xF ∷ 0x0 ∷ 0xF ∷ [])
+    ∷ (ofGate noneComes 3, 0x9 ∷ 0x3 ∷ 0x3 ∷ 0x3 ∷ 0x0 ∷ 0xF ∷ [])
+    -- one pattern comes: all entries but the one that it gives; the ODC does not look at E
+    ∷ (ofGate lastComes 2, 0x96 ∷ 0x7 ∷ 0x7 ∷ 0x7 ∷ 0x5 ∷ 0x7 ∷ [])
+    ∷ (ofGate lastComes 3, 0x78 ∷ 0xB ∷ 0xB ∷ 0xB ∷ 0x0 ∷ 0x7 ∷ [])
+    -- CDC, full and open table are three sets
+    ∷ (ofGate zeroNever 2, 0x78 ∷ 0x1 ∷ 0x5 ∷ 0x5 ∷ 0x5 ∷ 0x5 ∷ [])
+    ∷ (ofGate zeroNever 3, 0x78 ∷ 0x2 ∷ 0x2 ∷ 0x0 ∷ 0x0 ∷ 0x1 ∷ [])
+    -- of the current network: what an exchange brings only at an excluded pattern stays in the CDC, and what it takes away comes in
+    ∷ (cdc (currentNet chainSession) 1 ∷ cdc (currentNet chainSession) 2 ∷ [], 0x1 ∷ 0x2 ∷ [])
+    ∷ (exchangeSaid chainSession [] (to 1 1) ++ cdc (currentNet (after chainSession (to 1 1 ∷ []))) 2 ∷ [], 0x2 ∷ [])
+    ∷ (exchangeSaid twinSession [] (to 1 0) ++ cdc (currentNet (after twinSession (to 1 0 ∷ []))) 3 ∷ [], 0xA ∷ [])
     ∷ []
 
 -- ## More than 64 patterns
@@ -124,7 +149,7 @@ wide =
     (numbers (loadOf wideBytes .session), numbers wideSession)
     ∷ (bytesOf wideSession, wideBytes)
     -- entry 3 comes at excluded patterns only; entry 2 comes at 64, which is excluded, and at 65
-    ∷ (cdc wideNet 7 ∷ full wideNet 7 ∷ openTable wideNet 7 ∷ [], 0x0 ∷ 0x8 ∷ 0x8 ∷ [])
+    ∷ (cdc wideNet 7 ∷ full wideNet 7 ∷ openTable wideNet 7 ∷ [], 0x8 ∷ 0x8 ∷ 0x8 ∷ [])
     ∷ (setOf wideNet (compatible wideNet 7) ∷ [], 0xFFFFFFFF080402018040201008040201 ∷ [])
     ∷ (verdictSaid wideSession [] (to 7 0x0), [])
     ∷ (verdictSaid wideSession [] (to 7 0xC), 14 ∷ 65 ∷ 0 ∷ [])

@@ -1,7 +1,9 @@
--- Rules 1 to 4 of 01, 'The sets', and the harm that a verdict looks for. They are of the current network. Assumes nothing.
-use mathlib.Core.Bool.{Bool, false, not, _&&_, _||_, Bool·beq}
+-- Rules 1 to 4 of 01, 'The sets', rule 2 as request Two of 02 has it, and the harm that a verdict looks for. They are of the current network. Assumes nothing.
+use mathlib.Core.Path.{_≡_}
+use mathlib.Core.Logic.{_≢_, _↔_}
+use mathlib.Core.Bool.{Bool, true, false, not, _&&_, _||_, Bool·beq}
 use mathlib.Core.List.{List, [], _∷_, _++_}
-use Prim.Native.Nat.{ℕ, suc, _%_, _^_}
+use Prim.Native.Nat.{ℕ, suc, _%_, _^_, _<_}
 use lib.Dec.{eqb}
 use lib.ListN.{length, getD}
 use Rattle.bits.specs.Range.{_⇒_, places, every, any}
@@ -14,9 +16,13 @@ sdc N s =
     let g = gate N s in
     tableOf (2 ^ suc (arity g)) (λ e. differs (bit e (arity g)) (bit (g .table) (e % 2 ^ arity g)))
 
--- 2. CDC, controllability don't cares: entry t is set when no pattern gives the fan-ins the values of t
+-- 2, and request Two of 02. CDC, controllability don't cares: entry t is set when no pattern outside E gives the fan-ins the values of t
 unfoldable pub cdc : Net → ℕ → ℕ
 cdc N s = tableOf (entries N s) (λ t. not (any (patterns N) (λ x. occurs N x && eqb (entryOf N s x) t)))
+
+-- c has, of the entries of gate s, exactly those that no pattern outside E gives
+abbrev pub NeverGiven : Net → ℕ → ℕ → Type 0
+NeverGiven N s c = (t : ℕ) → t < entries N s → (bit c t ≡ true) ↔ ((x : ℕ) → x < patterns N → excluded N x ≡ false → entryOf N s x ≢ t)
 
 -- the values where that of signal s is inverted
 abbrev pub runInverted : ℕ → List Bool → List Gate → List Bool

@@ -52,6 +52,22 @@ observe = net 3 0 (g (0 ∷ 1 ∷ []) 0x6 ∷ g (0 ∷ 1 ∷ 3 ∷ 2 ∷ []) 0xB
 abbrev pub segment : Net
 segment = net 4 0xFC00 (g (0 ∷ 1 ∷ 2 ∷ 3 ∷ []) 0x3ED ∷ []) (4 ∷ [])
 
+-- three lines of which 111 never comes, and a gate with table t over them
+abbrev pub threeLines : ℕ → Net
+threeLines t = net 3 0x80 (g (0 ∷ 1 ∷ 2 ∷ []) t ∷ []) (3 ∷ [])
+
+-- no pattern comes: gate 3 is the NOT of the AND
+abbrev pub noneComes : Net
+noneComes = net 2 0xF (g (0 ∷ 1 ∷ []) 0x8 ∷ g (2 ∷ []) 0x1 ∷ []) (3 ∷ [])
+
+-- pattern 3 alone comes: gate 3 is the AND of the XOR and of input 0
+abbrev pub lastComes : Net
+lastComes = net 2 0x7 (g (0 ∷ 1 ∷ []) 0x6 ∷ g (2 ∷ 0 ∷ []) 0x8 ∷ []) (3 ∷ [])
+
+-- pattern 0 never comes: gate 3 is the AND of the AND and of input 0
+abbrev pub zeroNever : Net
+zeroNever = net 2 0x1 (g (0 ∷ 1 ∷ []) 0x8 ∷ g (2 ∷ 0 ∷ []) 0x8 ∷ []) (3 ∷ [])
+
 -- the XOR of two copies of the input, and the OR of three
 abbrev pub twoCopies : Net
 twoCopies = net 1 0 (g (0 ∷ []) 0x2 ∷ g (0 ∷ []) 0x2 ∷ g (1 ∷ 2 ∷ []) 0x6 ∷ []) (3 ∷ [])

@@ -1,6 +1,6 @@
 -- Gate networks and the values of their signals: 01, 'The engine' and the first lines of 'The sets'. Assumes nothing.
 -- A truth value is a Bool. A pattern, a table, a set of entries is a number, read by its bits.
-use mathlib.Core.Bool.{Bool, true, false, _&&_}
+use mathlib.Core.Bool.{Bool, false, not, _&&_}
 use mathlib.Core.List.{List, [], _∷_, _++_, map}
 use Prim.Native.Nat.{ℕ, _+_, _-_, _/_, _%_, _^_}
 use lib.Dec.{leb, ltb}
@@ -52,9 +52,9 @@ excluded N x = bit (getD (N .excluded) (x / 64) 0) (x % 64)
 unfoldable pub excludedFor : Net → ℕ → ℕ → Bool
 excludedFor N i x = excluded N x
 
--- the patterns from which an entry may come: all, those in E too
+-- the patterns from which an entry may come: those outside E
 unfoldable pub occurs : Net → ℕ → Bool
-occurs N x = true
+occurs N x = not (excluded N x)
 
 -- the patterns in the order in which a verdict tries them: by number
 unfoldable pub patternOrder : Net → List ℕ

@@ -4,7 +4,7 @@ use mathlib.Core.List.{List, [], _∷_, _++_}
 use Prim.Native.Nat.{ℕ}
 use lib.ListN.{take}
 use Rattle.text.specs.Ascii.{ascii}
-use Rattle.network.specs.Examples.{twinBytes}
+use Rattle.network.specs.Examples.{twinBytes, wideBytes}
 use Rattle.render.specs.Listing.{row, totals, refusedLine, listingOf}
 
 -- the lines as 01 prints them
@@ -16,10 +16,18 @@ twinText =
     ++ ascii "3 0006 0006 0002 0\n"
     ++ ascii "total 4 2\n"
 
+abbrev pub wideText : List ℕ
+wideText =
+    ascii "gate cdc full open hidden\n"
+    ++ ascii "7 0008 0008 0008 44\n"
+    ++ ascii "total 1 1\n"
+
 abbrev pub listed : List (List ℕ × List ℕ)
 listed =
     -- the twin network
     (listingOf twinBytes, twinText)
+    -- more than 64 patterns, entry 3 given by excluded ones alone
+    ∷ (listingOf wideBytes, wideText)
     -- the lines
     ∷ (row 10 0xABCD 0xEF00 0x000F 1024, ascii "10 abcd ef00 000f 1024\n")
     ∷ (totals 640 10, ascii "total 640 10\n")

@@ -1,7 +1,7 @@
 -- `dontcares::keep_row` meets its contract. Assumes nothing.
 use borrow.Author.Needs.{needs}
 use mathlib.Core.Path.{_≡_, refl, ap, _∙_}
-use mathlib.Core.Bool.{Bool, not, _&&_, _||_}
+use mathlib.Core.Bool.{Bool, not, _&&_}
 use Prim.Native.Nat.{ℕ, _+_, _-_, _*_, _≤_, _<_}
 use native.Mathlib.Omega.{arith}
 use lib.Bits.{bitAnd}
@@ -9,44 +9,44 @@ use lib.ListN.{length, getD, length-set}
 use denote.Ref.{now}
 use Rattle.bits.specs.Bounds.{rowWords}
 use Rattle.bits.specs.Bit.{bit}
-use Rattle.bits.proofs.BitLaws.{bit-and, bit-or}
+use Rattle.bits.proofs.BitLaws.{bit-and}
 use Rattle.simulate.proofs.RowLaws.{filled-bits}
 use Rattle.dontcares.proofs.keep_row.Statement.{statement}
 use Rattle.dontcares.proofs.keep_row.Tie as tie
 
 abbrev Inv-loop : tie.InvT-loop
-Inv-loop excluded odc live count g l₀ w₀ l w =
-    (w ≤ count) × (length l ≡ rowWords) × ((q i : ℕ) → q < w → i < 64 → bit (getD l q 0) i ≡ (bit live i && not (bit (getD excluded q 0) i || bit (getD odc (rowWords * g + q) 0) i)))
+Inv-loop come odc count g l₀ w₀ l w =
+    (w ≤ count) × (length l ≡ rowWords) × ((q i : ℕ) → q < w → i < 64 → bit (getD l q 0) i ≡ (bit (getD come q 0) i && not (bit (getD odc (rowWords * g + q) 0) i)))
 
 abbrev μ-loop : tie.MeasureT-loop
-μ-loop excluded odc live count g l₀ w₀ l w = count - w
+μ-loop come odc count g l₀ w₀ l w = count - w
 
 loop-holds : tie.Need-loop-holds Inv-loop μ-loop
 loop-holds c = (omega arith, refl, λ q i h k. absurd (omega arith))
 
+mul-l : tie.Need-mul-l Inv-loop μ-loop
+mul-l c = search needs
+
+element-copy-out-l : tie.Need-element-copy-out-l Inv-loop μ-loop
+element-copy-out-l c = search needs
+
 mul-complement : tie.Need-mul-complement Inv-loop μ-loop
 mul-complement c = search needs
-
-element-copy-out-complement : tie.Need-element-copy-out-complement Inv-loop μ-loop
-element-copy-out-complement c = search needs
-
-mul-complement-2 : tie.Need-mul-complement-2 Inv-loop μ-loop
-mul-complement-2 c = search needs
 
 add-complement : tie.Need-add-complement Inv-loop μ-loop
 add-complement c = search needs
 
-mul-complement-3 : tie.Need-mul-complement-3 Inv-loop μ-loop
-mul-complement-3 c = search needs
+mul-complement-2 : tie.Need-mul-complement-2 Inv-loop μ-loop
+mul-complement-2 c = search needs
 
-element-copy-out-complement-2 : tie.Need-element-copy-out-complement-2 Inv-loop μ-loop
-element-copy-out-complement-2 c = search needs
+element-copy-out-complement : tie.Need-element-copy-out-complement Inv-loop μ-loop
+element-copy-out-complement c = search needs
 
 complement-requires : tie.Need-complement-requires Inv-loop μ-loop
 complement-requires c κs = search needs
 
-mul-l : tie.Need-mul-l Inv-loop μ-loop
-mul-l c = search needs
+mul-l-2 : tie.Need-mul-l-2 Inv-loop μ-loop
+mul-l-2 c = search needs
 
 array-write-l : tie.Need-array-write-l Inv-loop μ-loop
 array-write-l c = search needs
@@ -61,12 +61,11 @@ loop-again : tie.Need-loop-again Inv-loop μ-loop
 loop-again c =
     let l = c .before .before .before .before in
     let a = l .before .args in
-    let e = getD (now (a .excluded)) (l .loop .w) 0 in
-    let o = getD (now (a .odc)) (rowWords * a .g + l .loop .w) 0 in (
+    let i₀ = getD (now (a .come)) (l .loop .w) 0 in (
       omega arith,
       simp length-set (l .loop .inv .1),
-      filled-bits (l .loop .l) (λ q i. bit (a .live) i && not (bit (getD (now (a .excluded)) q 0) i || bit (getD (now (a .odc)) (rowWords * a .g + q) 0) i)) (l .loop .w) (bitAnd (a .live) (c .complement .result)) (omega arith) (l .loop .inv .2)
-          (λ i h. bit-and (a .live) (c .complement .result) i ∙ ap (λ (x : Bool). bit (a .live) i && x) (c .complement .ensures i h ∙ ap not (bit-or e o i))),
+      filled-bits (l .loop .l) (λ q i. bit (getD (now (a .come)) q 0) i && not (bit (getD (now (a .odc)) (rowWords * a .g + q) 0) i)) (l .loop .w) (bitAnd i₀ (c .complement .result)) (omega arith) (l .loop .inv .2)
+          (λ i h. bit-and i₀ (c .complement .result) i ∙ ap (λ (x : Bool). bit i₀ i && x) (c .complement .ensures i h)),
     )
 
 returns : tie.Need-returns Inv-loop μ-loop
@@ -79,14 +78,14 @@ keep-row-spec =
     Inv-loop
     μ-loop
     loop-holds
-    mul-complement
-    element-copy-out-complement
-    mul-complement-2
-    add-complement
-    mul-complement-3
-    element-copy-out-complement-2
-    complement-requires
     mul-l
+    element-copy-out-l
+    mul-complement
+    add-complement
+    mul-complement-2
+    element-copy-out-complement
+    complement-requires
+    mul-l-2
     array-write-l
     add-w
     loop-less
