@@ -36,8 +36,9 @@ static void dont_cares(const Network *net, Sets *sets) {
             int same = same_outputs(net, values, other);
             unsigned t = entry(net, g, values);
             sets->odc[g][x / 64] |= (uint64_t)same << (x % 64);
+            if (excluded(net, x)) continue;
             sets->cdc[g] &= ~(1u << t);
-            if (!same && !excluded(net, x)) sets->full[g] &= ~(1u << t);
+            if (!same) sets->full[g] &= ~(1u << t);
         }
     }
 }

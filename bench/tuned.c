@@ -122,10 +122,11 @@ static inline unsigned delivered(int k, const Pair *const *in, const Pair *const
 }
 
 static void dont_cares(const Network *net, Sets *sets) {
-    Row rows[SIGNALS], other[SIGNALS], all, seen;
+    Row rows[SIGNALS], other[SIGNALS], come, seen;
     uint64_t masks[GATES];
     int pairs = pair_count(net->n);
-    for (int w = 0; w < pairs; w++) all[w] = live_pair(net->n);
+    Pair live = live_pair(net->n);
+    for (int w = 0; w < pairs; w++) come[w] = live & ~excluded_pair(net, w);
     simulate(net, rows);
     fanin_masks(net, masks);
     for (int g = 0; g < net->m; g++) {
@@ -134,11 +135,11 @@ static void dont_cares(const Network *net, Sets *sets) {
         fanin_rows(net, g, rows, in);
         observed(net, masks, rows, g, pairs, other, seen);
         for (int w = 0; w < pairs; w++) {
-            Pair odc = ~seen[w] & all[w];
+            Pair odc = ~seen[w] & live;
             memcpy(sets->odc[g] + 2 * w, &odc, sizeof odc);
-            seen[w] &= ~excluded_pair(net, w) & all[w];
+            seen[w] &= come[w];
         }
-        sets->cdc[g] = all_entries(k) & ~delivered(k, in, 0, all, pairs);
+        sets->cdc[g] = all_entries(k) & ~delivered(k, in, 0, come, pairs);
         sets->full[g] = all_entries(k) & ~delivered(k, in, 0, seen, pairs);
     }
 }

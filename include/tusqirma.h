@@ -118,7 +118,7 @@ uint64_t tusqirma_load(const uint8_t *file, size_t file_len, uint64_t *session, 
  * The tables of one gate, to `out` (4 words). The first three are of the current network; the open table is the one that
  * the session holds. Refusals 9, 10, 11.
  *   SDC         entry t + 2^k o, where o is 0 or 1, is set when o differs from the table's entry t
- *   CDC         entry t is set when no pattern gives the fan-ins the values of t
+ *   CDC         entry t is set when no pattern outside the excluded set gives the fan-ins the values of t
  *   full table  the entries that a lone replacement may alter: each pattern that gives t is excluded or in the ODC
  *   open table  the entries that an exchange may alter, whatever is exchanged at other gates
  */

@@ -11,6 +11,8 @@ pub const TWIN: [u8; 27] = [
     0, 0x4E, 0x4F, 3,
 ];
 
+const HEAD: &str = "gate cdc full open hidden\n";
+
 /// Load and listing of a file by every way.
 fn compare_file(report: &mut Report, case: &Case) -> u64 {
     let file = Lent::file(&case.file);
@@ -73,9 +75,8 @@ fn twin_without(set: u8) -> Vec<u8> {
 
 /// 01's twin network and its edges, line by line.
 pub fn edges(report: &mut Report) {
-    let head = "gate cdc full open hidden\n";
     let rows = "1 0000 0002 0002 1\n2 0000 0002 0000 0\n3 0006 0006 0002 0\ntotal 4 2\n";
-    listed(report, "the twin network", &TWIN, &format!("{head}{rows}"));
+    listed(report, "the twin network", &TWIN, &format!("{HEAD}{rows}"));
     stated(report, "k 4", &one_gate(6, &[0, 1, 2, 3]), 0);
     stated(report, "k 5", &one_gate(6, &[0, 1, 2, 3, 4]), 3);
     stated(report, "n 10", &copies(10, 1), 0);
@@ -86,9 +87,23 @@ pub fn edges(report: &mut Report) {
     stated(report, "fan-in n+g of gate g", &twin_but(14, 2), 4);
     stated(report, "one byte short", &twin_to(26, &[]), 1);
     stated(report, "one byte long", &twin_to(27, &[0]), 8);
-    let rows = "1 0000 0003 0003 2\n2 0000 0003 0003 2\n3 0006 000f 000f 2\ntotal 8 8\n";
-    let all = format!("{head}{rows}");
+    let rows = "1 0003 0003 0003 2\n2 0003 0003 0003 2\n3 000f 000f 000f 2\ntotal 8 8\n";
+    let all = format!("{HEAD}{rows}");
     listed(report, "E all ones", &twin_without(3), &all);
+}
+
+/// Request Two, line by line: the CDC of gates where excluded patterns alone give an entry.
+pub fn excluded(report: &mut Report) {
+    let lines = |rows: &str| format!("{HEAD}{rows}");
+    let file = b"NI\x03\x01\x01NX\x80NG\x03\x00\x01\x02\x96\x00NO\x03";
+    let text = lines("3 0080 0080 0080 1\ntotal 1 1\n");
+    listed(report, "three lines that never are 111", file, &text);
+    let file = b"NI\x02\x02\x01NX\x01NG\x02\x00\x01\x08\x00NG\x02\x02\x00\x08\x00NO\x03";
+    let text = lines("2 0001 0005 0005 2\n3 0002 0002 0000 1\ntotal 3 2\n");
+    listed(report, "three different tables", file, &text);
+    let file = b"NI\x07\x01\x01NX\x01\x02\x04\x08\x10\x20\x40\x80\x01\x02\x04\x08\xFF\xFF\xFF\xFFNG\x02\x05\x06\x08\x00NO\x07";
+    let text = lines("7 0008 0008 0008 44\ntotal 1 1\n");
+    listed(report, "patterns of a second word", file, &text);
 }
 
 /// The order of the tests in a record, and other points of the file that 01 states.

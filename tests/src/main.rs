@@ -49,6 +49,7 @@ fn main() {
     report.part("refusals in words", refusals::compare);
     report.part("program's input and output", program::compare);
     report.part("edges", files::edges);
+    report.part("excluded patterns", files::excluded);
     report.part("order of a file's tests", files::order);
     report.part("damaged files", |r| files::damaged(r, seed, count));
     report.part("random bytes", |r| files::random_bytes(r, seed, count));

@@ -37,7 +37,7 @@ fn compare_file(report: &mut Report, case: &Case) {
     }
 }
 
-/// Notes the network's counts and the kind of its excluded set.
+/// Notes the network's counts, and its excluded set.
 fn see(report: &mut Report, s: &Network) {
     let m = s.m();
     report.see(format!("n {}", s.n));
@@ -49,13 +49,30 @@ fn see(report: &mut Report, s: &Network) {
     if s.n == 10 && m == 40 {
         report.see("n 10 and m 40");
     }
+    see_excluded(report, s);
+}
+
+/// Notes the kind of the excluded set, and whether the CDC of a gate shows it.
+fn see_excluded(report: &mut Report, s: &Network) {
     let excluded = s.excluded.iter().filter(|&&one| one).count();
     match (excluded, excluded * 4 / s.patterns()) {
-        (0, _) => report.see("an empty excluded set"),
+        (0, _) => return report.see("an empty excluded set"),
         (_, 0) => report.see("a sparse excluded set"),
         (_, 3) => report.see("a dense excluded set"),
         (_, 4) => report.see("a full excluded set"),
         _ => {}
+    }
+    let whole = |word: &[bool]| word.iter().all(|&one| one == word[0]);
+    if excluded < s.patterns() && s.excluded.chunks(64).all(whole) {
+        report.see("whole words in an excluded set");
+    }
+    let excluded = vec![false; s.patterns()];
+    let all_come = Network {
+        excluded,
+        ..s.clone()
+    };
+    if (0..s.m()).any(|g| s.cdc(g) != all_come.cdc(g)) {
+        report.see("an entry that excluded patterns alone give");
     }
 }
 
@@ -64,10 +81,17 @@ fn bounds(report: &mut Report) {
     let all = |name: &'static str, most| (1..=most).map(move |c| format!("{name} {c}"));
     let counts = all("n", 10).chain(all("p", 8)).chain(all("k", 4));
     counts.for_each(|what| report.require_seen(&what));
-    for what in ["m 1", "m 40", "n 10 and m 40"] {
+    for what in [
+        "m 1",
+        "m 40",
+        "n 10 and m 40",
+        "an empty excluded set",
+        "a sparse excluded set",
+        "a dense excluded set",
+        "a full excluded set",
+        "whole words in an excluded set",
+        "an entry that excluded patterns alone give",
+    ] {
         report.require_seen(what);
-    }
-    for kind in ["an empty", "a sparse", "a dense", "a full"] {
-        report.require_seen(&format!("{kind} excluded set"));
     }
 }

@@ -100,18 +100,23 @@ fn gate(rng: &mut Random, signals: usize) -> Vec<u8> {
     [&[0x4E, 0x47, fanins.len() as u8], &fanins[..], &table].concat()
 }
 
-/// No record, or one of an empty, a sparse, a dense or a full excluded set.
+/// No record, or one of an empty, a sparse, a dense or a full excluded set, or of whole words of 64 patterns.
 fn excluded(rng: &mut Random, n: usize) -> Vec<u8> {
-    let kind = rng.within(0, 5);
+    let kind = rng.within(0, 6);
     if kind < 2 {
         return Vec::new();
     }
     let mut set = vec![0u8; ((1 << n) / 8).max(1)];
+    let mut word = false;
     for x in 0..1usize << n {
+        if x % 64 == 0 {
+            word = rng.chance(2);
+        }
         let one = match kind {
             2 => false,
             3 => rng.chance(8),
             4 => !rng.chance(8),
+            5 => word,
             _ => true,
         };
         set[x / 8] |= (one as u8) << (x % 8);

@@ -22,7 +22,7 @@ pub struct Session {
 pub struct Tables {
     /// Satisfiability don't cares of the current network: entry t + 2^k·o is set when o differs from the table's entry t.
     pub sdc: u64,
-    /// Controllability don't cares of the current network.
+    /// Controllability don't cares of the current network: entry t is set when no pattern outside the excluded set gives it.
     pub cdc: u64,
     /// The entries that a lone replacement may alter in the current network.
     pub full: u64,

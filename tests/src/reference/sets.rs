@@ -26,10 +26,11 @@ impl Network {
             .collect()
     }
 
-    /// 2. CDC.
+    /// 2. CDC, as request Two has it: no pattern that comes gives the entry.
     pub fn cdc(&self, g: usize) -> u64 {
         let given = self.entries_at(g);
-        table(self.entries(g), |t| !given.contains(&t))
+        let came = |t| (0..self.patterns()).any(|x| !self.excluded[x] && given[x] == t);
+        table(self.entries(g), |t| !came(t))
     }
 
     /// 3. ODC, as one truth value for each pattern.
