@@ -5,7 +5,7 @@ use Prim.Native.Nat.{ℕ, _+_, _-_}
 use lib.ListN.{set, take, replicate}
 use Rattle.text.specs.Ascii.{ascii}
 use Rattle.network.specs.Net.{Replacement, signals}
-use Rattle.network.specs.Examples.{twinBytes, twinSession, twinNet}
+use Rattle.network.specs.Examples.{twinBytes, twinSession, twinNet, zeroNeverSession}
 use Rattle.render.specs.Listing.{mostListingBytes}
 use Rattle.packed.specs.Packed.{packedOf, arityStart, faninsStart, outputsStart, excludedStart, loadedStart, currentStart, openStart, sessionWords, byteWords}
 use Rattle.boundary.specs.Boundary.{Left, loadCall, listingCall, tablesCall, allTablesCall, patternSetsCall, hiddenCall, verdictCall, exchangeCall, writeCall}
@@ -63,6 +63,8 @@ cases =
     ∷ (given (verdictCall words [] [] (7 ∷ 7 ∷ [])), 0 ∷ 7 ∷ 7 ∷ [])
     ∷ (given (writeCall words (replicate 28 7) (7 ∷ [])), 0 ∷ 27 ∷ [])
     ∷ (laid (writeCall words (replicate 28 7) (7 ∷ [])), 0 ∷ twinBytes ++ 7 ∷ [])
+    -- request Two: CDC, full and open table are three sets where pattern 0 never comes
+    ∷ (given (allTablesCall (packedOf zeroNeverSession) (replicate 9 7)), 0 ∷ 0x78 ∷ 1 ∷ 5 ∷ 5 ∷ 0x78 ∷ 2 ∷ 2 ∷ 0 ∷ 7 ∷ [])
     -- a loaded file, and the line of a refused one
     ∷ (laid (loadCall twinBytes (replicate (sessionWords + 1) 9)), 0 ∷ words)
     ∷ (given (listingCall (take 26 twinBytes) (replicate 11 7) (7 ∷ 7 ∷ [])), 0 ∷ 10 ∷ 7 ∷ [])

@@ -64,10 +64,6 @@ noneComes = net 2 0xF (g (0 ∷ 1 ∷ []) 0x8 ∷ g (2 ∷ []) 0x1 ∷ []) (3 �
 abbrev pub lastComes : Net
 lastComes = net 2 0x7 (g (0 ∷ 1 ∷ []) 0x6 ∷ g (2 ∷ 0 ∷ []) 0x8 ∷ []) (3 ∷ [])
 
--- pattern 0 never comes: gate 3 is the AND of the AND and of input 0
-abbrev pub zeroNever : Net
-zeroNever = net 2 0x1 (g (0 ∷ 1 ∷ []) 0x8 ∷ g (2 ∷ 0 ∷ []) 0x8 ∷ []) (3 ∷ [])
-
 -- the XOR of two copies of the input, and the OR of three
 abbrev pub twoCopies : Net
 twoCopies = net 1 0 (g (0 ∷ []) 0x2 ∷ g (0 ∷ []) 0x2 ∷ g (1 ∷ 2 ∷ []) 0x6 ∷ []) (3 ∷ [])
@@ -117,6 +113,13 @@ chainBytes =
 
 abbrev pub chainSession : Session
 chainSession = held 1 2 1 (1 ∷ []) (1 ∷ 1 ∷ []) (replicate gatePlaces 0 ++ 1 ∷ []) (0x0 ∷ 0x1 ∷ []) (0x1 ∷ 0x2 ∷ []) (2 ∷ [])
+
+-- pattern 0 never comes: gate 2 is the AND of the inputs, gate 3 the AND of gate 2 and of input 0
+abbrev pub zeroNeverSession : Session
+zeroNeverSession = held 2 2 1 (1 ∷ []) (2 ∷ 2 ∷ []) (0 ∷ 1 ∷ 0 ∷ 0 ∷ 0 ∷ 0 ∷ 2 ∷ 0 ∷ []) (0x8 ∷ 0x8 ∷ []) (0x5 ∷ 0x0 ∷ []) (3 ∷ [])
+
+abbrev pub zeroNever : Net
+zeroNever = loadedNet zeroNeverSession
 
 -- gate 7 is the AND of inputs 5 and 6; the patterns 96 to 127, at which it is 1, are excluded, and some of the others
 abbrev pub wideBytes : List ℕ
