@@ -12,7 +12,7 @@ use Rattle.network.specs.Bounds.{mostGates, mostOutputs, mostFanins, mos
 use Rattle.network.specs.Net.{Net, gate, patterns, Replacement, replaced}
 use Rattle.network.specs.DontCares.{sdc, cdc, odc, full}
 use Rattle.network.specs.Compatible.{freeFanins, compatible, compatibleCount, openTable}
-use Rattle.network.specs.Flat.{currentNet}
+use Rattle.network.specs.Flat.{loadedNet, currentNet}
 use Rattle.network.specs.Refusals.{said, saidTables, saidWrite}
 use Rattle.network.specs.Load.{readOf, loadOf}
 use Rattle.network.specs.Write.{bytesOf}
@@ -124,6 +124,10 @@ worked =
 abbrev pub headLines : ℕ → List (List ℕ × List ℕ)
 headLines t = (cdc (threeLines t) 3 ∷ [], 0x80 ∷ []) ∷ []
 
+-- CDC, full and open table of the gate g after some exchanges
+abbrev pub tablesAfter : Session → List Replacement → ℕ → List ℕ
+tablesAfter s rs g = let N = currentNet (after s rs) in cdc N g ∷ full N g ∷ openTable (loadedNet s) g ∷ []
+
 abbrev pub neverGiven : List (List ℕ × List ℕ)
 neverGiven =
     (ofGate (threeLines 0x96) 3, 0x6996 ∷ 0x80 ∷ 0x80 ∷ 0x80 ∷ 0x0 ∷ 0x80 ∷ [])
@@ -137,9 +141,10 @@ neverGiven =
     ∷ (ofGate zeroNever 2, 0x78 ∷ 0x1 ∷ 0x5 ∷ 0x5 ∷ 0x5 ∷ 0x5 ∷ [])
     ∷ (ofGate zeroNever 3, 0x78 ∷ 0x2 ∷ 0x2 ∷ 0x0 ∷ 0x0 ∷ 0x1 ∷ [])
     -- of the current network: what an exchange brings only at an excluded pattern stays in the CDC, and what it takes away comes in
-    ∷ (cdc (currentNet chainSession) 1 ∷ cdc (currentNet chainSession) 2 ∷ [], 0x1 ∷ 0x2 ∷ [])
-    ∷ (exchangeSaid chainSession [] (to 1 1) ++ cdc (currentNet (after chainSession (to 1 1 ∷ []))) 2 ∷ [], 0x2 ∷ [])
-    ∷ (exchangeSaid twinSession [] (to 1 0) ++ cdc (currentNet (after twinSession (to 1 0 ∷ []))) 3 ∷ [], 0xA ∷ [])
+    ∷ (exchangeSaid chainSession [] (to 1 1) ++ exchangeSaid twinSession [] (to 1 0), [])
+    ∷ (tablesAfter chainSession [] 1 ++ tablesAfter chainSession [] 2, 0x1 ∷ 0x1 ∷ 0x1 ∷ 0x2 ∷ 0x2 ∷ 0x2 ∷ [])
+    ∷ (tablesAfter chainSession (to 1 1 ∷ []) 2, 0x2 ∷ 0x2 ∷ 0x2 ∷ [])
+    ∷ (tablesAfter twinSession (to 1 0 ∷ []) 3, 0xA ∷ 0xA ∷ 0x2 ∷ [])
     ∷ []
 
 -- ## More than 64 patterns
