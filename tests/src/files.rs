@@ -1,4 +1,4 @@
-//! Files that load and files that do not: 01's edges line by line, damage for each refusal 1 to 8, random bytes.
+//! Files that load and files that do not: 01's edges and request Two's line by line, damage for each refusal 1 to 8, random bytes.
 
 use crate::call::{Call, Lent};
 use crate::damage;
@@ -32,7 +32,7 @@ fn stated(report: &mut Report, what: &str, file: &[u8], number: u64) {
     compare_file(report, &case);
 }
 
-/// A file whose listing 01 gives in full.
+/// A file whose listing is stated in full.
 fn listed(report: &mut Report, what: &str, file: &[u8], text: &str) {
     stated(report, what, file, 0);
     for way in [RAW, BINDING, PROGRAM] {

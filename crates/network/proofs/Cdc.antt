@@ -8,7 +8,7 @@ use native.Mathlib.Decide.{decLt}
 use native.Mathlib.Omega.{arith}
 use lib.Dec.{eqb}
 use borrow.Author.Tests.{eqb-true, eq-eqb, not-true}
-use Rattle.bits.specs.Range.{_⇒_, every, any}
+use Rattle.bits.specs.Range.{any}
 use Rattle.bits.specs.Bit.{bit, tableOf}
 use Rattle.bits.proofs.BitLaws.{bit-above}
 use Rattle.bits.proofs.Ranges.{and-l, and-r, and-i, by-cases, every-i, any-i, any-e, any-ext, bit-table, table-lt, table-ext}
@@ -23,7 +23,7 @@ module _ (N : Net) (s : ℕ) where
 
   cdc-bit : (t : ℕ) → t < entries N s → bit (cdc N s) t ≡ not (any (patterns N) (gives t))
   unfolding cdc occurs
-  cdc-bit t h = bit-table (entries N s) (λ t. not (any (patterns N) (gives t))) t h
+  cdc-bit t h = bit-table (entries N s) _ t h
 
   -- of an entry of the CDC, each pattern that gives it is excluded
   only-excluded : (t : ℕ) → t < entries N s → bit (cdc N s) t ≡ true → (x : ℕ) → x < patterns N → entryOf N s x ≡ t → excluded N x ≡ true
@@ -45,18 +45,13 @@ module _ (N : Net) (s : ℕ) where
   unfolding cdc full
   cdc-full t e = go (decLt t (entries N s))
     where
-      rule : ℕ → Bool
-      rule t = every (patterns N) (λ x. eqb (entryOf N s x) t ⇒ (excluded N x || odc N s x))
-
       go : Dec (t < entries N s) → bit (full N s) t ≡ true
       go (yes h) =
-          bit-table (entries N s) rule t h
-          ∙ every-i (patterns N) (λ x. eqb (entryOf N s x) t ⇒ (excluded N x || odc N s x))
-          (λ x l. imp-i _ _ (λ same. ap (λ (b : Bool). b || odc N s x) (only-excluded t h e x l (eqb-true _ _ same))))
-      go (no n) = clash e (bit-above (cdc N s) (entries N s) t (table-lt (entries N s) (λ t. not (any (patterns N) (λ x. occurs N x && eqb (entryOf N s x) t)))) (omega arith))
+          bit-table (entries N s) _ t h
+          ∙ every-i (patterns N) _ (λ x l. imp-i _ _ (λ same. ap (λ (b : Bool). b || odc N s x) (only-excluded t h e x l (eqb-true _ _ same))))
+      go (no n) = clash e (bit-above (cdc N s) (entries N s) t (table-lt (entries N s) _) (omega arith))
 
   pub cdc-plain : ((x : ℕ) → x < patterns N → excluded N x ≡ false) → cdc N s ≡ tableOf (entries N s) (λ t. not (any (patterns N) (λ x. eqb (entryOf N s x) t)))
   unfolding cdc occurs
   cdc-plain none =
-      table-ext (entries N s) (λ t. not (any (patterns N) (gives t))) (λ t. not (any (patterns N) (λ x. eqb (entryOf N s x) t)))
-      (λ t h. ap not (any-ext (patterns N) (gives t) (λ x. eqb (entryOf N s x) t) (λ x l. ap (λ (b : Bool). not b && eqb (entryOf N s x) t) (none x l))))
+      table-ext (entries N s) _ _ (λ t h. ap not (any-ext (patterns N) (gives t) _ (λ x l. ap (λ (b : Bool). not b && eqb (entryOf N s x) t) (none x l))))
