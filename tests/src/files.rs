@@ -11,7 +11,7 @@ pub const TWIN: [u8; 27] = [
     0, 0x4E, 0x4F, 3,
 ];
 
-const HEAD: &str = "gate cdc full open hidden\n";
+pub const HEAD: &str = "gate cdc full open hidden\n";
 
 /// Load and listing of a file by every way.
 fn compare_file(report: &mut Report, case: &Case) -> u64 {
@@ -33,7 +33,7 @@ fn stated(report: &mut Report, what: &str, file: &[u8], number: u64) {
 }
 
 /// A file whose listing is stated in full.
-fn listed(report: &mut Report, what: &str, file: &[u8], text: &str) {
+pub fn listed(report: &mut Report, what: &str, file: &[u8], text: &str) {
     stated(report, what, file, 0);
     for way in [RAW, BINDING, PROGRAM] {
         let mut lent = Lent::file(file);

@@ -9,6 +9,7 @@
 mod alterations;
 mod c;
 mod call;
+mod counts;
 mod damage;
 mod engine;
 mod example;
@@ -50,6 +51,7 @@ fn main() {
     report.part("program's input and output", program::compare);
     report.part("edges", files::edges);
     report.part("excluded patterns", files::excluded);
+    report.part("pattern counts", counts::compare);
     report.part("order of a file's tests", files::order);
     report.part("damaged files", |r| files::damaged(r, seed, count));
     report.part("random bytes", |r| files::random_bytes(r, seed, count));

@@ -7,11 +7,12 @@ use Prim.Native.Nat.{ℕ, _+_, _*_, _^_, _≤_, _<_}
 use native.Mathlib.Nat.{min-le-left}
 use native.Mathlib.Omega.{arith}
 use native.Mathlib.Decide.{decLt}
-use lib.ListN.{length, getD, take, drop, length-take, List·getD-eq-default}
+use lib.ListN.{length, getD, take, drop, length-take, List·getD-append, List·getD-eq-default}
 use lib.Seq.{take-append-seam, getD-take, getD-drop}
 use borrow.Author.Tests.{le-ltb, ne-eqb}
 use Rattle.bits.specs.Lists.{overwritten}
 use Rattle.bits.specs.Bit.{bit}
+use Rattle.bits.proofs.Ranges.{places-at}
 use Rattle.bits.proofs.Logic.{clash}
 use Rattle.network.specs.declared.Session.{Session}
 use Rattle.network.specs.declared.Loaded.{Loaded}
@@ -22,6 +23,7 @@ use Rattle.network.specs.declared.Answer.the-variants.{Done, Refused}
 use Rattle.network.specs.Bounds.{excludedWords}
 use Rattle.network.specs.Net.{Net, isGate, patterns, Replacement, signals, newTables}
 use Rattle.network.specs.DontCares.{NeverGiven}
+use Rattle.network.specs.Compatible.{compatibleCount}
 use Rattle.network.specs.Flat.{loadedNet, currentNet}
 use Rattle.network.specs.Refusals.{numberOf, said}
 use Rattle.network.specs.Tests.{member, first}
@@ -252,17 +254,34 @@ tables-shown ws gate out z =
     clash (ap (λ (n : ℕ). member n (9 ∷ 10 ∷ 11 ∷ [])) (sym e) ∙ r .1) refl)
     (demand1-calls .tables ws gate out)
 
+-- ## The counts
+
+module _ (ws out : List ℕ) (v : wordsTest ws ≡ Done) (r : sessionIn ws .m ≤ length out) where
+  hidden-gives : Gives (hiddenCall ws out) [] [] (hiddenCounts (sessionIn ws)) out
+  unfolding hiddenCall
+  hidden-gives = let s = sessionIn ws in room-given ws v (s .m) (hiddenCounts s) out (hidden-length s) r
+
+  count-shown : (g : ℕ) → g < sessionIn ws .m → getD (hiddenCall ws out .out) g 0 ≡ compatibleCount (loadedNet (sessionIn ws)) (sessionIn ws .n + g)
+  count-shown g l =
+      let s = sessionIn ws in
+      ap (λ (x : Left). getD (x .out) g 0) (hidden-gives .2)
+      ∙ List·getD-append (hiddenCounts s) (drop (length (hiddenCounts s)) out) 0 g (omega (arith, hidden-length s))
+      ∙ places-at 0 (s .m) (λ i. compatibleCount (loadedNet s) (s .n + i)) g l
+
 -- ## All the calls
 
 pub demand2-calls : Demand2Calls
-unfolding allTablesCall patternSetsCall hiddenCall patternSetsOf
+unfolding allTablesCall patternSetsCall patternSetsOf
 demand2-calls = record {
   load = load-gives;
   listing = listing-gives;
   tables = λ ws gate out v. tables-given ws v gate out;
   allTables = λ ws out v. let s = sessionIn ws in room-given ws v (tablesRoom * s .m) (allTableWords s (s .m)) out (tables-length s (s .m));
   patternSets = λ ws words v. let s = sessionIn ws in fill-given ws v 0 [] (setWords s (s .m)) words [] refl (omega arith);
-  hidden = λ ws out v. let s = sessionIn ws in room-given ws v (s .m) (hiddenCounts s) out (hidden-length s);
+  hidden = hidden-gives;
+  countsFit = λ ws out v r. let s = sessionIn ws in
+      let fit = demand2 .countsFit s (words-state ws v) in
+      (λ g l. rw (count-shown ws out v r g l) (fit .0 (s .n + g)), fit .1);
   write = write-gives;
   cdcExact = λ ws gate out z. let C = currentNet (sessionIn ws) in
       subst (λ (o : List ℕ). NeverGiven C gate (getD o 1 0)) (sym (tables-shown ws gate out z)) (demand2 .cdcExact C gate);

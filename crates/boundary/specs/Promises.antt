@@ -16,7 +16,7 @@ use Rattle.network.specs.declared.Answer.{Answer}
 use Rattle.network.specs.declared.Answer.the-variants.{Done}
 use Rattle.network.specs.Net.{Net, isGate, entries, patterns, excludedFor, output, Replacement}
 use Rattle.network.specs.DontCares.{sdc, cdc, NeverGiven, full}
-use Rattle.network.specs.Compatible.{compatibleCount, openTable}
+use Rattle.network.specs.Compatible.{compatibleCount, compatibleTotal, openTable}
 use Rattle.network.specs.Flat.{loadedNet, currentNet}
 use Rattle.network.specs.Refusals.{numberOf, said}
 use Rattle.network.specs.Tests.{member, first}
@@ -99,6 +99,9 @@ pub record Demand2Calls : Type 0 where
       → Gives (patternSetsCall ws words) (setWords (sessionIn ws) (sessionIn ws .m)) words [] []
   pub hidden : (ws out : List ℕ) → wordsTest ws ≡ Done → sessionIn ws .m ≤ length out
       → Gives (hiddenCall ws out) [] [] (places (sessionIn ws .m) (λ g. compatibleCount (loadedNet (sessionIn ws)) (sessionIn ws .n + g))) out
+  -- request Three: sixteen bits hold each of these words, and all of them added
+  pub countsFit : (ws out : List ℕ) → wordsTest ws ≡ Done → sessionIn ws .m ≤ length out
+      → ((g : ℕ) → g < sessionIn ws .m → getD (hiddenCall ws out .out) g 0 ≤ 1024) × (compatibleTotal (loadedNet (sessionIn ws)) (sessionIn ws .m) ≤ 40960)
   pub write : (ws file out : List ℕ) → wordsTest ws ≡ Done → 1 ≤ length out → length (bytesOf (sessionIn ws)) ≤ length file
       → Gives (writeCall ws file out) (bytesOf (sessionIn ws)) file (length (bytesOf (sessionIn ws)) ∷ []) out
   -- request Two, of the words that a call gave: an entry is in the CDC exactly when no pattern outside E gives it

@@ -23,6 +23,18 @@ pub fn give(values: &[u64], out: &mut [u64])
     buffer::lay_words(out, 0, values);
 }
 
+// Counts at the start of `out`, one to a word; the words behind them stay.
+pub fn put_counts(counts: &[u16], out: &mut [u64])
+    requires { ⌜ length (now counts) ≤ length (now out) ⌝ }
+    ensures { λ _. ⌜ now (out .exit) ≡ overwritten (now (counts .entry)) (now (out .entry)) ⌝ }
+{
+    let mut i: usize = 0;
+    while i < counts.len() {
+        out[i] = counts[i] as u64;
+        i += 1;
+    }
+}
+
 // What a refusal names goes to the start of `out`; its number is given back.
 pub fn tell_refusal(r: Refusal, out: &mut [u64]) -> u64
     requires { ⌜ length (valuesOf r) ≤ length (now out) ⌝ }

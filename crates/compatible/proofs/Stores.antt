@@ -44,6 +44,10 @@ sets-step q w m l l′ done own kept g v hg hv =
 
 -- ## The ones of a set
 
+-- a word has no more ones than bits
+pub ones-few : {c : ℕ} (x : ℕ) → c ≡ count 64 (bit x) → c ≤ 64
+ones-few x e = rw e (count-le 64 (bit x))
+
 pub ones-step : (ws : List ℕ) (at w sum c : ℕ) → sum ≡ onesIn ws at w → c ≡ count 64 (bit (getD ws (at + w) 0)) → sum + c ≡ onesIn ws at (w + 1)
 unfolding onesIn
 ones-step ws at w sum c e h = rw add-one (ap₂ (λ (x y : ℕ). x + y) e h)

@@ -94,22 +94,22 @@ pub fn sets_from(s: Session, hs: &[u64; SIGNAL_WORDS], live: u64, count: usize) 
 }
 
 // The ones of as many words as most says, from place at on.
-fn ones_in(sets: &[u64; GATE_WORDS], at: usize, most: usize) -> u64
+fn ones_in(sets: &[u64; GATE_WORDS], at: usize, most: usize) -> u16
     requires { ⌜ (at + rowWords ≤ gateWords) × (most ≤ rowWords) ⌝ }
     ensures { λ r. ⌜ r ≡ onesIn (now (sets .entry)) at most ⌝ }
 {
-    let mut sum: u64 = 0;
+    let mut sum: u16 = 0;
     let mut w = 0;
     while w < most {
         let c = bits::ones(sets[at + w]);
-        sum += c as u64;
+        sum += c as u16;
         w += 1;
     }
     sum
 }
 
 // How many patterns the compatible set of each gate has: the ones of each of its words, added.
-pub fn counts_of(s: Session, sets: &[u64; GATE_WORDS]) -> [u64; MOST_GATES]
+pub fn counts_of(s: Session, sets: &[u64; GATE_WORDS]) -> [u16; MOST_GATES]
     requires { ⌜ stateFault s ≡ Answer.Done ⌝ }
     requires { ⌜ SetWords s (now sets) ⌝ }
     ensures { λ r. ⌜ r ≡ perGate (s .m) (λ g. compatibleCount (loadedNet s) (s .n + g)) ⌝ }
@@ -117,7 +117,7 @@ pub fn counts_of(s: Session, sets: &[u64; GATE_WORDS]) -> [u64; MOST_GATES]
     let m = network::place(s.m);
     let f = bits::frame_of(network::place(s.n));
     let most = f.count;
-    let mut counts = [0u64; MOST_GATES];
+    let mut counts = [0u16; MOST_GATES];
     let mut g = 0;
     while g < m {
         let c = ones_in(sets, ROW_WORDS * g, most);
@@ -139,7 +139,7 @@ pub fn compatible_sets(s: Session) -> [u64; GATE_WORDS]
 }
 
 // How many patterns each of them has.
-pub fn counts(s: Session) -> [u64; MOST_GATES]
+pub fn counts(s: Session) -> [u16; MOST_GATES]
     requires { ⌜ stateFault s ≡ Answer.Done ⌝ }
     ensures { λ r. ⌜ r ≡ perGate (s .m) (λ g. compatibleCount (loadedNet s) (s .n + g)) ⌝ }
 {

@@ -38,6 +38,7 @@ use Rattle.network.proofs.ByTest.{room-by, state-by, gate-by, table-by, closed-
 use Rattle.network.proofs.Demand3.{demand3-of, rule4-of}
 use Rattle.network.proofs.Together.{together-of}
 use Rattle.network.proofs.Cdc.{cdc-exact, cdc-full, cdc-plain}
+use Rattle.network.proofs.CountBounds.{counts-fit}
 use Rattle.network.proofs.Inside.{inside-of}
 use Rattle.roundtrip.proofs.RoundTrip.{round-trip}
 use Rattle.engine.specs.Demands.{Ends, Demand1, allInPlace, Changes, Judged, Reached, Demand2, Demand3}
@@ -153,6 +154,7 @@ demand2 = record {
   cdcPlain = cdc-plain;
   patternSets = λ s buffer. fills-done s (setWords s (s .m)) buffer;
   counts = λ s g v. counts-are s v g;
+  countsFit = counts-fit;
   harmful = harmful-is;
   shown = λ s rs x i j. shown-at s rs j x i;
   harmless = harmless-is;

@@ -18,7 +18,7 @@ use Rattle.network.specs.declared.TablesAnswer.the-variants as tables
 use Rattle.network.specs.declared.WriteAnswer.the-variants as write
 use Rattle.network.specs.Net.{Net, isGate, entries, patterns, excluded, entryOf, Replacement, replaced}
 use Rattle.network.specs.DontCares.{sdc, cdc, NeverGiven, full, harms}
-use Rattle.network.specs.Compatible.{compatibleCount, openTable}
+use Rattle.network.specs.Compatible.{compatibleCount, compatibleTotal, openTable}
 use Rattle.network.specs.Flat.{loadedNet, currentNet}
 use Rattle.network.specs.Valid.{Shaped}
 use Rattle.network.specs.Refusals.{numberOf, said}
@@ -99,6 +99,9 @@ pub record Demand2 : Type 0 where
       → patternSetsOf s buffer ≡ record { answer = Done; buffer = overwritten (setWords s (s .m)) buffer }
   -- and the number of patterns in H of each gate
   pub counts : (s : Session) (g : ℕ) → stateTest s ≡ Done → g < s .m → getD (countsOf s .counts) g 0 ≡ compatibleCount (loadedNet s) (s .n + g)
+  -- request Three: sixteen bits hold the count of each gate, and of all gates together
+  pub countsFit : (s : Session) → stateTest s ≡ Done
+      → ((g : ℕ) → compatibleCount (loadedNet s) g ≤ 1024) × (compatibleTotal (loadedNet s) (s .m) ≤ 40960)
   -- request Two, of every network: an entry is in the CDC exactly when no pattern outside E gives it
   pub cdcExact : (N : Net) (g : ℕ) → NeverGiven N g (cdc N g)
   -- an entry of the CDC is one of the full table

@@ -88,7 +88,7 @@ pub fn counts(s: Session) -> Counts
     if let Answer::Refused(_) = v {
         return Counts {
             answer: v,
-            counts: [0u64; MOST_GATES],
+            counts: [0u16; MOST_GATES],
         };
     }
     answers::counts(s)
@@ -131,7 +131,7 @@ pub fn load(bytes: &[u8]) -> Loaded
 // A load, and the number of patterns in the compatible set of each gate that it gives.
 pub struct Counted {
     pub loaded: Loaded,
-    pub counts: [u64; MOST_GATES],
+    pub counts: [u16; MOST_GATES],
 }
 
 // As `with_open_tables`, with the counts: both from one computation of the compatible sets.
@@ -155,7 +155,7 @@ pub fn load_counted(bytes: &[u8]) -> Counted
     let l = netread::read(bytes);
     let a = l.answer;
     if let Answer::Refused(r) = a {
-        let none = [0u64; MOST_GATES];
+        let none = [0u16; MOST_GATES];
         return Counted {
             loaded: network::refused(r),
             counts: none,

@@ -71,6 +71,6 @@ pub fn hidden(session: &[u64], out: &mut [u64]) -> u64
     }
     let c = answers::counts(s);
     let counts = c.counts;
-    boundary::give(&counts[0..m], out);
+    boundary::put_counts(&counts[0..m], out);
     0
 }

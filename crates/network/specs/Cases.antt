@@ -2,7 +2,7 @@
 -- patterns, more than one output, bounds and sizes, refused calls, damaged files. A case is a pair: what the definitions give, and
 -- what is stated. Assumes nothing.
 use mathlib.Core.Bool.{Bool}
-use mathlib.Core.List.{List, [], _∷_, _++_}
+use mathlib.Core.List.{List, [], _∷_, _++_, map}
 use Prim.Native.Nat.{ℕ}
 use lib.ListN.{take, drop, set, replicate}
 use Rattle.bits.specs.Bounds.{mostInputs, rowWords}
@@ -11,7 +11,7 @@ use Rattle.network.specs.declared.Session.{Session}
 use Rattle.network.specs.Bounds.{mostGates, mostOutputs, mostFanins, mostEntries, mostSignals, faninPlaces, signalWords, gateWords, excludedWords, mostSetBytes, mostGateBytes, mostFileBytes}
 use Rattle.network.specs.Net.{Net, gate, patterns, Replacement, replaced}
 use Rattle.network.specs.DontCares.{sdc, cdc, odc, full}
-use Rattle.network.specs.Compatible.{freeFanins, compatible, compatibleCount, openTable}
+use Rattle.network.specs.Compatible.{freeFanins, compatible, compatibleCount, compatibleTotal, openTable}
 use Rattle.network.specs.Flat.{loadedNet, currentNet}
 use Rattle.network.specs.Refusals.{said, saidTables, saidWrite}
 use Rattle.network.specs.Load.{readOf, loadOf}
@@ -173,6 +173,8 @@ multiOutput =
     ∷ (ofGate multiOutputNet 3, 0x06 ∷ 0x0 ∷ 0x0 ∷ 0x0 ∷ 0 ∷ 0b0100 ∷ [])
     ∷ (ofGate multiOutputNet 4, 0x1E ∷ 0x6 ∷ 0x6 ∷ 0x2 ∷ 0 ∷ 0b0100 ∷ [])
     ∷ (ofGate multiOutputNet 5, 0x09 ∷ 0x0 ∷ 0x3 ∷ 0x3 ∷ 0b1111 ∷ 0b1111 ∷ [])
+    -- the counts of no gate, of the first, and so on to all four, added
+    ∷ (map (compatibleTotal multiOutputNet) (0 ∷ 1 ∷ 2 ∷ 3 ∷ 4 ∷ []), 0 ∷ 3 ∷ 4 ∷ 5 ∷ 9 ∷ [])
     -- of the outputs that are harmed, the lowest is named
     ∷ (verdictSaid multiOutputSession [] (to 3 0), 14 ∷ 1 ∷ 3 ∷ [])
     ∷ (verdictSaid multiOutputSession [] (to 4 0), 14 ∷ 1 ∷ 1 ∷ [])

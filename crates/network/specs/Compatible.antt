@@ -58,6 +58,11 @@ compatible N s x = leb (N .inputs) s && compatibleFrom (atOutputs N x) (values N
 unfoldable pub compatibleCount : Net → ℕ → ℕ
 compatibleCount N s = count (patterns N) (compatible N s)
 
+-- the counts of the first g gates, added
+abbrev pub compatibleTotal : Net → ℕ → ℕ
+compatibleTotal N zero = 0
+compatibleTotal N (suc g) = compatibleTotal N g + compatibleCount N (N .inputs + g)
+
 -- ## 7. Open table
 
 -- t agrees with the values of gate s's fan-ins at the pattern x, except at gates whose H holds x

@@ -118,7 +118,7 @@ pub enum WriteAnswer {
 // The number of patterns in the compatible set of each gate, 0 past the last gate and in a refusal.
 pub struct Counts {
     pub answer: Answer,
-    pub counts: [u64; MOST_GATES],
+    pub counts: [u16; MOST_GATES],
 }
 
 // The session that holds nothing but the counts.

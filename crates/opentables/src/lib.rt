@@ -107,7 +107,7 @@ pub fn open_tables(s: Session) -> [u64; MOST_GATES]
 // The open table of each gate, and how many patterns its compatible set has.
 pub struct OpenCounts {
     pub opens: [u64; MOST_GATES],
-    pub counts: [u64; MOST_GATES],
+    pub counts: [u16; MOST_GATES],
 }
 
 // Both from one computation of the compatible sets.

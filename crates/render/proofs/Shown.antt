@@ -2,8 +2,7 @@
 use mathlib.Core.Path.{_≡_, refl, sym, ap, ap₂, _∙_}
 use mathlib.Core.Bool.{cond}
 use mathlib.Core.List.{List}
-use Prim.Native.Nat.{ℕ, zero, suc, _+_, _-_, _^_, _≤_, _<_}
-use native.Mathlib.Nat.{pow-le-pow-right}
+use Prim.Native.Nat.{ℕ, zero, suc, _+_, _-_, _≤_, _<_}
 use native.Mathlib.Omega.{arith}
 use lib.Dec.{ltb}
 use lib.ListN.{length, getD, take, drop}
@@ -14,7 +13,6 @@ use Rattle.bits.specs.Range.{count}
 use Rattle.bits.specs.Bit.{bit}
 use Rattle.bits.specs.Lists.{overwritten}
 use Rattle.bits.proofs.Ranges.{places-at}
-use Rattle.bits.proofs.Cuts.{count-le}
 use Rattle.buffer.specs.Laid.{Laid}
 use Rattle.buffer.proofs.Laying.{laid-start}
 use Rattle.network.specs.declared.Session.{Session}
@@ -23,15 +21,16 @@ use Rattle.network.specs.declared.Answer.the-variants.{Done, Refused}
 use Rattle.network.specs.declared.Refusal.{Refusal}
 use Rattle.network.specs.declared.Refusal.the-variants.{BufferTooShort}
 use Rattle.network.specs.Bounds.{mostGates, mostEntries}
-use Rattle.network.specs.Net.{Net, patterns}
+use Rattle.network.specs.Net.{Net}
 use Rattle.network.specs.DontCares.{cdc, full}
-use Rattle.network.specs.Compatible.{compatible, compatibleCount, openTable, openTables, perGate}
+use Rattle.network.specs.Compatible.{compatibleCount, openTable, openTables, perGate}
 use Rattle.network.specs.Flat.{loadedNet, currentNet}
 use Rattle.network.specs.Refusals.{numberOf}
 use Rattle.network.specs.Load.{loadOf}
 use Rattle.network.specs.State.{stateFault}
 use Rattle.network.specs.Calls.{countsOf}
 use Rattle.network.proofs.Valid.{state-i}
+use Rattle.network.proofs.CountBounds.{count-few}
 use Rattle.network.proofs.Fresh.{Fresh}
 use Rattle.network.proofs.Reached.{loaded-fresh}
 use Rattle.network.proofs.Exchanges.{loaded-length, loaded-inputs}
@@ -110,13 +109,6 @@ module _ (s : Session) (t : Columns) (valid : stateFault s ≡ Done) (same : s .
         hidden-at = λ g h. ap (λ (l : List ℕ). getD l g 0) (eh ∙ counts-of s valid) ∙ per-gate (s .m) (λ x. compatibleCount N (s .n + x)) g few (omega arith) ∙ rw i;
       }
 
-hidden-few : (N : Net) (s : ℕ) → N .inputs ≤ mostInputs → compatibleCount N s ≤ 1024
-unfolding compatibleCount
-hidden-few N s h =
-    let b : 2 ^ N .inputs ≤ 1024 = pow-le-pow-right {n = 2} (omega arith) {i = N .inputs} {j = mostInputs} h in
-    let c = count-le (patterns N) (compatible N s) in
-    omega arith
-
 pub shows-ready : (N : Net) (t : Columns) → Shows N t → t .n ≤ mostInputs → t .m ≤ mostGates → Ready t
 shows-ready N t v i m = record {
   inputs = i;
@@ -124,7 +116,7 @@ shows-ready N t v i m = record {
   few = λ g h.
       let e = v .hidden-at g h in
       let n = v .inputs in
-      let l = hidden-few N (N .inputs + g) (omega arith) in
+      let l = count-few N (omega arith) (N .inputs + g) in
       omega arith;
 }
 

@@ -27,7 +27,7 @@ pub struct Columns {
     pub cdc: [u64; MOST_GATES],
     pub full: [u64; MOST_GATES],
     pub opens: [u64; MOST_GATES],
-    pub hidden: [u64; MOST_GATES],
+    pub hidden: [u16; MOST_GATES],
 }
 
 // Each function that puts text does so from place at on, or from the start, and returns the place behind it.
@@ -40,7 +40,7 @@ fn put_row(buf: &mut [u8], at: usize, t: Columns, g: usize) -> usize
     let cdc = t.cdc[g];
     let full = t.full[g];
     let opens = t.opens[g];
-    let hidden = t.hidden[g];
+    let hidden = t.hidden[g] as u64;
     let a = text::put_number(buf, at, signal, b' ');
     let b = text::put_field(buf, a, cdc);
     let c = text::put_field(buf, b, full);
@@ -115,7 +115,7 @@ fn put_text(buf: &mut [u8], t: Columns) -> usize
 }
 
 // What a session shows once it is loaded, with the counts of its gates.
-fn columns_of(s: Session, hidden: [u64; MOST_GATES]) -> Columns
+fn columns_of(s: Session, hidden: [u16; MOST_GATES]) -> Columns
     requires { ⌜ (stateFault s ≡ Done) × (s .current ≡ s .loaded) × (s .open_tables ≡ openTables (loadedNet s)) ⌝ }
     requires { ⌜ hidden ≡ countsOf s .counts ⌝ }
     ensures { λ r. ⌜ Ready r × (textOf r ≡ listingOfNet (loadedNet s)) ⌝ }

@@ -5,7 +5,7 @@ use Prim.Native.Nat.{_-_, _≤_}
 use native.Mathlib.Omega.{arith}
 use denote.Ref.{now}
 use Rattle.compatible.specs.Words.{onesIn}
-use Rattle.compatible.proofs.Stores.{ones-step, ones-le}
+use Rattle.compatible.proofs.Stores.{ones-few, ones-step, ones-le}
 use Rattle.compatible.proofs.ones_in.Statement.{statement}
 use Rattle.compatible.proofs.ones_in.Tie as tie
 
@@ -32,13 +32,13 @@ ones-requires : tie.Need-ones-requires Inv-loop μ-loop
 ones-requires c κs = search needs
 
 cast-sum : tie.Need-cast-sum Inv-loop μ-loop
-cast-sum c = search needs
+cast-sum c = omega (arith, ones-few _ (c .ones .ensures))
 
 add-sum : tie.Need-add-sum Inv-loop μ-loop
 add-sum c =
     let a = c .before .before .before .before .args in
     let l = c .before .before .before .loop in
-    omega (arith, l .inv .1, ones-le (now (a .sets)) (a .at) (l .w))
+    omega (arith, ones-few _ (c .ones .ensures), l .inv .1, ones-le (now (a .sets)) (a .at) (l .w))
 
 add-w : tie.Need-add-w Inv-loop μ-loop
 add-w c = search needs

@@ -45,14 +45,14 @@ counts-requires c κs =
     let x = opens hiddenWork (a .session .now) [] (a .out .now) (u .unpack .ensures) (t .room .ensures) (c .enum-told .given .1) in
     state-e (u .unpack .result .session) (x .valid)
 
-sub-give : tie.Need-sub-give
-sub-give c = search needs
+sub-put-counts : tie.Need-sub-put-counts
+sub-put-counts c = search needs
 
-part-give-start : tie.Need-part-give-start
-part-give-start c = search needs
+part-put-counts-start : tie.Need-part-put-counts-start
+part-put-counts-start c = search needs
 
-part-give-end : tie.Need-part-give-end
-part-give-end c =
+part-put-counts-end : tie.Need-part-put-counts-end
+part-put-counts-end c =
     let k = c .before .before in
     let t = k .before .before .before in
     let u = t .before .before .before in
@@ -60,8 +60,8 @@ part-give-end c =
     let x = opens hiddenWork (a .session .now) [] (a .out .now) (u .unpack .ensures) (t .room .ensures) (k .before .enum-told .given .1) in
     counts-long (u .unpack .result .session) (k .counts .ensures) (x .valid)
 
-give-requires : tie.Need-give-requires
-give-requires c κs =
+put-counts-requires : tie.Need-put-counts-requires
+put-counts-requires c κs =
     let k = c .before .before .before .before in
     let t = k .before .before .before in
     let u = t .before .before .before in
@@ -81,7 +81,7 @@ returns-2 c =
     let a = u .before .before .before .args in
     let x = opens hiddenWork (a .session .now) [] (a .out .now) (u .unpack .ensures) (t .room .ensures) (k .before .enum-told .given .1) in
     let s = u .unpack .result .session in
-    let o = c .before .before .give .ensures ∙ ap (λ (l : List ℕ). overwritten l (a .out .now)) (counts-part s (k .counts .ensures) (x .valid)) in
+    let o = c .before .before .put-counts .ensures ∙ ap (λ (l : List ℕ). overwritten l (a .out .now)) (counts-part s (k .counts .ensures) (x .valid)) in
     x .leaves (done (hiddenWork s .given) [] [] (a .out .now) refl refl o)
 
 pub hidden-spec : {M : Type 1} → statement M
@@ -96,9 +96,9 @@ hidden-spec =
     returns
     enum-told
     counts-requires
-    sub-give
-    part-give-start
-    part-give-end
-    give-requires
+    sub-put-counts
+    part-put-counts-start
+    part-put-counts-end
+    put-counts-requires
     same-length
     returns-2)

@@ -33,6 +33,9 @@ mul-hidden c = search needs
 element-copy-out-hidden : tie.Need-element-copy-out-hidden
 element-copy-out-hidden c = search needs
 
+cast-hidden : tie.Need-cast-hidden
+cast-hidden c = search needs
+
 put-number-requires : tie.Need-put-number-requires
 put-number-requires c κs = search needs
 
@@ -97,6 +100,7 @@ put-row-spec =
     element-copy-out-opens
     mul-hidden
     element-copy-out-hidden
+    cast-hidden
     put-number-requires
     put-field-requires
     put-field-requires-2
