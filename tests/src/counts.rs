@@ -85,9 +85,7 @@ fn exchanged(report: &mut Report) {
     counted(report, &case.after("loaded again"), &again, &[2, 0, 0]);
 }
 
-const EDGES: [usize; 13] = [
-    0, 1, 63, 64, 65, 255, 256, 257, 511, 512, 513, 1023, 1024,
-];
+const EDGES: [usize; 13] = [0, 1, 63, 64, 65, 255, 256, 257, 511, 512, 513, 1023, 1024];
 
 pub fn compare(report: &mut Report) {
     most(report, "no pattern comes", &chain(10, 40, 1024, 49), "0003");

@@ -1,23 +1,18 @@
 -- The three demands, proved. Assumes nothing.
 use mathlib.Core.Path.{_≡_, refl, sym, ap, _∙_}
 use mathlib.Core.Logic.{⊎-elim, _↔_}
-use mathlib.Core.Bool.{true, cond}
+use mathlib.Core.Bool.{true}
 use mathlib.Core.List.{List, [], _∷_}
-use Prim.Native.Nat.{ℕ, _+_, _≤_, _<_}
-use native.Mathlib.Omega.{arith}
-use lib.Dec.{ltb}
-use lib.ListN.{length, getD}
-use borrow.Author.Tests.{le-ltb, lt-ltb}
+use Prim.Native.Nat.{ℕ, _≤_}
+use lib.ListN.{length}
+use borrow.Author.Tests.{le-ltb}
 use Rattle.bits.specs.Lists.{overwritten}
-use Rattle.bits.proofs.Ranges.{places-at}
 use Rattle.bits.proofs.Logic.{clash}
 use Rattle.network.specs.declared.Session.{Session}
 use Rattle.network.specs.declared.TablesAnswer.the-variants as tables
 use Rattle.network.specs.declared.Answer.{Answer}
 use Rattle.network.specs.declared.Answer.the-variants.{Done, Refused}
-use Rattle.network.specs.Bounds.{mostGates}
 use Rattle.network.specs.Net.{Net, isGate, patterns, Replacement}
-use Rattle.network.specs.Compatible.{compatibleCount}
 use Rattle.network.specs.Flat.{loadedNet}
 use Rattle.network.specs.Valid.{Shaped}
 use Rattle.network.specs.Refusals.{said}
@@ -27,8 +22,7 @@ use Rattle.network.specs.Load.{loadDone, onward, readOf, opened, loadOf}
 use Rattle.network.specs.Write.{bytesOf}
 use Rattle.network.specs.Calls.{gateTest, harmTest, exchangeTests, heldClosed, exchangeAnswer, exchanged, exchangeOf, lengthsTest, pairs, pairsTest, verdictOf, verdictOn, gateTables, givenTables, tablesOf, Filled, roomTest, filled, setWords, patternSetsOf, writeOf, countsFor, countsOf, withLength, writtenOf}
 use Rattle.network.specs.Sessions.{after, NoHarm, FirstHarm}
-use Rattle.network.proofs.TestLaws.{count-e}
-use Rattle.network.proofs.Valid.{valid-e, state-e, state-i}
+use Rattle.network.proofs.Valid.{state-e, state-i}
 use Rattle.network.proofs.Fresh.{Fresh}
 use Rattle.network.proofs.Exchanges.{after-valid, after-loaded, after-shaped, after-open}
 use Rattle.network.proofs.Reached.{loaded-fresh, loaded-shaped}
@@ -38,7 +32,7 @@ use Rattle.network.proofs.ByTest.{room-by, state-by, gate-by, table-by, closed-
 use Rattle.network.proofs.Demand3.{demand3-of, rule4-of}
 use Rattle.network.proofs.Together.{together-of}
 use Rattle.network.proofs.Cdc.{cdc-exact, cdc-full, cdc-plain}
-use Rattle.network.proofs.CountBounds.{counts-fit}
+use Rattle.network.proofs.CountLaws.{counts-at, counts-fit}
 use Rattle.network.proofs.Inside.{inside-of}
 use Rattle.roundtrip.proofs.RoundTrip.{round-trip}
 use Rattle.engine.specs.Demands.{Ends, Demand1, allInPlace, Changes, Judged, Reached, Demand2, Demand3}
@@ -92,19 +86,9 @@ demand1 = record {
 
 -- ## Demand 2: in every state that 10 does not refuse
 
-module _ (s : Session) (v : stateTest s ≡ Done) where
-  tables-are : (g : ℕ) → isGate (loadedNet s) g ≡ true → tablesOf s g ≡ tables.Given (gateTables s g)
-  unfolding tablesOf gateTest
-  tables-are g w = rw (v, w)
-
-  counts-are : (g : ℕ) → g < s .m → getD (countsOf s .counts) g 0 ≡ compatibleCount (loadedNet s) (s .n + g)
-  unfolding countsOf
-  counts-are g l =
-      let most = count-e mostGates (s .m) (valid-e s (state-e s v) .gates) in
-      let at : ℕ → ℕ = λ g. cond (ltb g (s .m)) (compatibleCount (loadedNet s) (s .n + g)) 0 in
-      ap (λ (a : Answer). getD (countsFor a s .counts) g 0) v
-      ∙ places-at 0 mostGates at g (omega arith)
-      ∙ ap (λ b. cond b (compatibleCount (loadedNet s) (s .n + g)) 0) (lt-ltb g (s .m) l)
+tables-are : (s : Session) (g : ℕ) → stateTest s ≡ Done → isGate (loadedNet s) g ≡ true → tablesOf s g ≡ tables.Given (gateTables s g)
+unfolding tablesOf gateTest
+tables-are s g v w = rw (v, w)
 
 -- what an answer says exactly where P holds, one that equals it says too
 same-said : {P : Type 0} (a b : Answer) (l : List ℕ) → a ≡ b → (said b ≡ l) ↔ P → (said a ≡ l) ↔ P
@@ -148,12 +132,12 @@ module _ (s : Session) (fresh : Fresh s) (rs : List Replacement) where
 pub demand2 : Demand2
 unfolding patternSetsOf writeOf writtenOf
 demand2 = record {
-  tables = λ s g v. tables-are s v g;
+  tables = tables-are;
   cdcExact = cdc-exact;
   cdcFull = cdc-full;
   cdcPlain = cdc-plain;
   patternSets = λ s buffer. fills-done s (setWords s (s .m)) buffer;
-  counts = λ s g v. counts-are s v g;
+  counts = λ s g v. counts-at s v g;
   countsFit = counts-fit;
   harmful = harmful-is;
   shown = λ s rs x i j. shown-at s rs j x i;

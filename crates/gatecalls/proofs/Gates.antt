@@ -7,10 +7,9 @@ use native.Mathlib.Nat.{zero-add}
 use native.Mathlib.Omega.{arith}
 use lib.Dec.{ltb}
 use lib.ListN.{length, getD, take}
-use borrow.Author.Tests.{lt-ltb}
 use Rattle.bits.specs.Range.{places}
 use Rattle.bits.specs.Lists.{overwritten}
-use Rattle.bits.proofs.Ranges.{length-places, places-at, places-ext}
+use Rattle.bits.proofs.Ranges.{length-places, places-ext}
 use Rattle.buffer.proofs.Laying.{part-places}
 use Rattle.network.specs.declared.Session.{Session}
 use Rattle.network.specs.declared.Counts.{Counts}
@@ -27,8 +26,8 @@ use Rattle.network.specs.Refusals.{numberOf}
 use Rattle.network.specs.Tests.{first}
 use Rattle.network.specs.State.{stateTest}
 use Rattle.network.specs.Calls.{gateTest, gateTables, givenTables, tablesOf, countsOf}
-use Rattle.network.proofs.TestLaws.{count-e}
-use Rattle.network.proofs.Valid.{valid-e, state-e}
+use Rattle.network.proofs.Valid.{state-e, net-ok}
+use Rattle.network.proofs.CountLaws.{counts-at}
 use Rattle.answers.proofs.Given.{counts-done}
 use Rattle.boundary.specs.Boundary.{tableWords, tablesWork}
 use Rattle.boundary.proofs.Names.{names-first, names-gate}
@@ -67,22 +66,17 @@ module _ (s : Session) {x : Counts} (e : x ≡ countsOf s) (valid : stateTest s 
   abbrev counted : ℕ → ℕ
   counted g = compatibleCount (loadedNet s) (s .n + g)
 
-  all : x .counts ≡ places mostGates (λ g. cond (ltb g (s .m)) (counted g) 0)
-  all = ap (λ (y : Counts). y .counts) (e ∙ sym (counts-done s valid))
-
-  few : s .m ≤ mostGates
-  few = count-e mostGates (s .m) (valid-e s (state-e s valid) .gates) .1
-
   pub counts-long : s .m ≤ length (x .counts)
-  counts-long = let n = ap length all ∙ length-places mostGates (λ g. cond (ltb g (s .m)) (counted g) 0) in let m = few in omega arith
+  counts-long =
+      let n = ap (λ (y : Counts). length (y .counts)) (e ∙ sym (counts-done s valid)) ∙ length-places mostGates (λ g. cond (ltb g (s .m)) (counted g) 0) in
+      let m = net-ok s (state-e s valid) .most in
+      omega arith
 
   pub counts-part : take (s .m - 0) (x .counts) ≡ places (s .m) counted
   counts-part =
       let q : s .m - 0 ≡ s .m = omega arith in
-      let m = few in
       rw q (part-places (x .counts) 0 (s .m) (let n = counts-long in omega arith)
-      ∙ places-ext (s .m) (λ g. getD (x .counts) (0 + g) 0) counted
-      (λ g h. rw (zero-add, all, places-at 0 mostGates (λ i. cond (ltb i (s .m)) (counted i) 0) g (omega arith), lt-ltb g (s .m) h)))
+      ∙ places-ext (s .m) (λ g. getD (x .counts) (0 + g) 0) counted (λ g h. rw (zero-add, e) (counts-at s valid g h)))
 
   pub counts-few : (out : List ℕ) → s .m ≤ length out → length (take (s .m - 0) (x .counts)) ≤ length out
   counts-few out r = let n = ap length counts-part ∙ length-places (s .m) counted in omega arith

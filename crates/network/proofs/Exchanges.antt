@@ -5,7 +5,7 @@ use mathlib.Core.List.{List, [], _∷_, map}
 use Prim.Native.Nat.{ℕ, _+_, _-_, _^_, _<_, _≤_}
 use native.Mathlib.Decide.{ℕ-discrete}
 use native.Mathlib.Omega.{arith}
-use lib.Dec.{eqb, leb, ltb}
+use lib.Dec.{eqb, leb}
 use lib.ListN.{length, getD, set, length-set}
 use lib.Seq.{getD-set-same, getD-set-other}
 use borrow.Author.Tests.{eq-eqb, ne-eqb, le-leb, lt-ltb}
@@ -13,7 +13,7 @@ use Rattle.bits.specs.declared.Found.{Found}
 use Rattle.bits.specs.declared.Found.the-variants.{At, Nothing}
 use Rattle.bits.specs.Range.{places, smallest}
 use Rattle.bits.specs.Bit.{bit}
-use Rattle.bits.proofs.Ranges.{and-i, by-cases, length-places, places-at, places-ext, bit-table}
+use Rattle.bits.proofs.Ranges.{and-i, by-cases, length-places, places-ext, bit-table}
 use Rattle.bits.proofs.Logic.{not-not}
 use Rattle.bits.proofs.Search.{Smallest, smallest-is, smallest-eq, smallest-ext}
 use Rattle.network.specs.declared.Session.{Session}
@@ -32,7 +32,7 @@ use Rattle.network.specs.Calls.{gateTest, fits, tableTest, alters, entry
 use Rattle.network.specs.Sessions.{after, answers, answerBy, took, lastAccepted, finalTables}
 use Rattle.network.proofs.Slots.{sized-current}
 use Rattle.network.proofs.Fresh.{Fresh}
-use Rattle.network.proofs.FlatGates.{arity-at, length-gates}
+use Rattle.network.proofs.FlatGates.{per-gate-at, arity-at, length-gates}
 use Rattle.network.proofs.TestLaws.{count-e}
 use Rattle.network.proofs.Valid.{Valid, valid-e, valid-i, state-i}
 use Rattle.network.proofs.Earlier.{gates-at, gate-bounds}
@@ -157,9 +157,7 @@ fits-e s r w f =
 
 pub open-at : (N : Net) (g : ℕ) → g < mostGates → g < length (N .gates) → getD (openTables N) g 0 ≡ openTable N (N .inputs + g)
 unfolding openTables
-open-at N g h l =
-    places-at 0 mostGates (λ g. cond (ltb g (length (N .gates))) (openTable N (N .inputs + g)) 0) g h
-    ∙ ap (λ b. cond b (openTable N (N .inputs + g)) 0) (lt-ltb g (length (N .gates)) l)
+open-at N = per-gate-at (length (N .gates)) (λ g. openTable N (N .inputs + g))
 
 pub open-bit : (N : Net) (k t : ℕ) → t < entries N k → not (bit (openTable N k) t) ≡ closed N k t
 unfolding openTable

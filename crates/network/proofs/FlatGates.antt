@@ -1,19 +1,27 @@
--- Laws of `entry`, `run` and the flat arrays. Assumes nothing.
+-- Laws of `entry`, `run`, `perGate` and the flat arrays. Assumes nothing.
 use mathlib.Core.Path.{_≡_, refl, sym, ap, _∙_}
-use mathlib.Core.Bool.{Bool, false}
+use mathlib.Core.Bool.{Bool, false, cond}
 use mathlib.Core.List.{List, [], _∷_, _++_}
 use Prim.Native.Nat.{ℕ, suc, _+_, _*_, _^_, _<_}
 use native.Mathlib.Nat.{add-zero}
 use native.Mathlib.Omega.{arith}
+use lib.Dec.{ltb}
 use lib.ListN.{length, getD, take, drop, set, length-append}
 use lib.Seq.{take-suc-set, getD-take, drop-cons}
+use borrow.Author.Tests.{lt-ltb}
 use Rattle.bits.specs.Bounds.{gatePlaces}
 use Rattle.bits.specs.Range.{places}
 use Rattle.bits.specs.Bit.{bit, number, tableOf, column, entryAt}
 use Rattle.bits.proofs.Ranges.{length-places, places-at, map-places, table-ext, table-lt, column-at, column-set, column-length}
+use Rattle.network.specs.Bounds.{mostGates}
 use Rattle.network.specs.Net.{Gate, arity, entry, run}
+use Rattle.network.specs.Compatible.{perGate}
 use Rattle.network.specs.Flat.{gateAt, gatesOf}
 use Rattle.network.specs.Valid.{GateOk}
+
+-- of what is said of m gates, what is said of gate g
+pub per-gate-at : (m : ℕ) (p : ℕ → ℕ) (g : ℕ) → g < mostGates → g < m → getD (perGate m p) g 0 ≡ p g
+per-gate-at m p g h l = places-at 0 mostGates (λ i. cond (ltb i m) (p i) 0) g h ∙ rw (lt-ltb g m l)
 
 pub run-snoc : (vs : List Bool) (gs : List Gate) (g : Gate) → run vs (gs ++ g ∷ []) ≡ run vs gs ++ bit (g .table) (entry (run vs gs) g) ∷ []
 run-snoc vs [] g = refl

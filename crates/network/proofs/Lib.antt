@@ -7,7 +7,7 @@ pub mod TestLaws
 pub mod Said
 pub mod Cases
 pub mod Cdc
-pub mod CountBounds
+pub mod CountLaws
 pub mod Harm
 pub mod ByTest
 pub mod Lists

@@ -1,10 +1,8 @@
 -- A loaded session's columns show its network; the listing's text in a buffer. Assumes nothing.
 use mathlib.Core.Path.{_≡_, refl, sym, ap, ap₂, _∙_}
-use mathlib.Core.Bool.{cond}
 use mathlib.Core.List.{List}
 use Prim.Native.Nat.{ℕ, zero, suc, _+_, _-_, _≤_, _<_}
 use native.Mathlib.Omega.{arith}
-use lib.Dec.{ltb}
 use lib.ListN.{length, getD, take, drop}
 use lib.Seq.{take-append-le, take-length}
 use borrow.Author.Tests.{lt-ltb, le-ltb}
@@ -12,7 +10,6 @@ use Rattle.bits.specs.Bounds.{mostInputs}
 use Rattle.bits.specs.Range.{count}
 use Rattle.bits.specs.Bit.{bit}
 use Rattle.bits.specs.Lists.{overwritten}
-use Rattle.bits.proofs.Ranges.{places-at}
 use Rattle.buffer.specs.Laid.{Laid}
 use Rattle.buffer.proofs.Laying.{laid-start}
 use Rattle.network.specs.declared.Session.{Session}
@@ -23,17 +20,17 @@ use Rattle.network.specs.declared.Refusal.the-variants.{BufferTooShort}
 use Rattle.network.specs.Bounds.{mostGates, mostEntries}
 use Rattle.network.specs.Net.{Net}
 use Rattle.network.specs.DontCares.{cdc, full}
-use Rattle.network.specs.Compatible.{compatibleCount, openTable, openTables, perGate}
+use Rattle.network.specs.Compatible.{compatibleCount, openTable, openTables}
 use Rattle.network.specs.Flat.{loadedNet, currentNet}
 use Rattle.network.specs.Refusals.{numberOf}
 use Rattle.network.specs.Load.{loadOf}
 use Rattle.network.specs.State.{stateFault}
 use Rattle.network.specs.Calls.{countsOf}
 use Rattle.network.proofs.Valid.{state-i}
-use Rattle.network.proofs.CountBounds.{count-few}
+use Rattle.network.proofs.CountLaws.{counts-at, count-few}
 use Rattle.network.proofs.Fresh.{Fresh}
 use Rattle.network.proofs.Reached.{loaded-fresh}
-use Rattle.network.proofs.Exchanges.{loaded-length, loaded-inputs}
+use Rattle.network.proofs.Exchanges.{loaded-length, loaded-inputs, open-at}
 use Rattle.dontcares.specs.Tabled.{Tabled}
 use Rattle.engine.specs.declared.Counted.{Counted}
 use Rattle.engine.specs.Counted.{countedOf}
@@ -78,17 +75,6 @@ current-loaded : (s : Session) → s .current ≡ s .loaded → currentNet s ≡
 unfolding currentNet loadedNet
 current-loaded s e = rw e
 
-per-gate : (m : ℕ) (p : ℕ → ℕ) (g : ℕ) → m ≤ mostGates → g < m → getD (perGate m p) g 0 ≡ p g
-per-gate m p g k h = places-at 0 mostGates (λ i. cond (ltb i m) (p i) 0) g (omega arith) ∙ rw (lt-ltb g m h)
-
-open-tables : (N : Net) → openTables N ≡ perGate (length (N .gates)) (λ g. openTable N (N .inputs + g))
-unfolding openTables
-open-tables N = refl
-
-counts-of : (s : Session) → stateFault s ≡ Done → countsOf s .counts ≡ perGate (s .m) (λ g. compatibleCount (loadedNet s) (s .n + g))
-unfolding countsOf
-counts-of s e = rw (state-i s e)
-
 module _ (s : Session) (t : Columns) (valid : stateFault s ≡ Done) (same : s .current ≡ s .loaded) (held : s .open_tables ≡ openTables (loadedNet s))
     (few : s .m ≤ mostGates) (en : t .n ≡ s .n) (em : t .m ≡ s .m)
     (k : Tabled (currentNet s) (t .cdc) (t .full) (s .n) 0 (s .m))
@@ -104,9 +90,8 @@ module _ (s : Session) (t : Columns) (valid : stateFault s ≡ Done) (same : s .
         gates = em ∙ sym m;
         cdc-at = λ g h. k .at g (omega arith) (omega arith) .0 ∙ rw (c, i);
         full-at = λ g h. k .at g (omega arith) (omega arith) .1 ∙ rw (c, i);
-        open-at = λ g h. ap (λ (l : List ℕ). getD l g 0) (eo ∙ held ∙ open-tables N)
-            ∙ per-gate (length (N .gates)) (λ x. openTable N (N .inputs + x)) g (omega arith) (omega arith);
-        hidden-at = λ g h. ap (λ (l : List ℕ). getD l g 0) (eh ∙ counts-of s valid) ∙ per-gate (s .m) (λ x. compatibleCount N (s .n + x)) g few (omega arith) ∙ rw i;
+        open-at = λ g h. ap (λ (l : List ℕ). getD l g 0) (eo ∙ held) ∙ open-at N g (omega arith) (omega arith);
+        hidden-at = λ g h. ap (λ (l : List ℕ). getD l g 0) eh ∙ counts-at s (state-i s valid) g (omega arith) ∙ rw i;
       }
 
 pub shows-ready : (N : Net) (t : Columns) → Shows N t → t .n ≤ mostInputs → t .m ≤ mostGates → Ready t

@@ -2,6 +2,7 @@
 use Prim.Native.Nat.{_-_, _≤_}
 use native.Mathlib.Omega.{arith}
 use lib.ListN.{length, drop}
+use mir.Facts.{fits-widen}
 use borrow.Author.Needs.{needs}
 use Rattle.buffer.proofs.Laying.{laid-start, Pending, pending-start, lay-more, lay-all}
 use Rattle.boundary.proofs.put_counts.Statement.{statement}
@@ -23,7 +24,7 @@ shared-slice-read-out : tie.Need-shared-slice-read-out Inv-loop μ-loop
 shared-slice-read-out c = search needs
 
 cast-out : tie.Need-cast-out Inv-loop μ-loop
-cast-out c = omega (arith, c .shared-slice-known .given (c .before .before .loop .i))
+cast-out c = fits-widen tt (c .shared-slice-known .given _)
 
 mul-out-2 : tie.Need-mul-out-2 Inv-loop μ-loop
 mul-out-2 c = search needs

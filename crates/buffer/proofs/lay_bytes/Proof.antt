@@ -2,6 +2,7 @@
 use Prim.Native.Nat.{_-_, _≤_}
 use native.Mathlib.Omega.{arith}
 use lib.ListN.{length, drop}
+use mir.Facts.{fits-widen}
 use borrow.Author.Needs.{needs}
 use Rattle.buffer.proofs.Laying.{Pending, pending-start, lay-place, lay-more, lay-all}
 use Rattle.buffer.proofs.lay_bytes.Statement.{statement}
@@ -20,7 +21,7 @@ shared-slice-read-words : tie.Need-shared-slice-read-words Inv-loop μ-loop
 shared-slice-read-words c = search needs
 
 cast-words : tie.Need-cast-words Inv-loop μ-loop
-cast-words c = omega (arith, c .shared-slice-known .given (c .before .before .loop .i))
+cast-words c = fits-widen tt (c .shared-slice-known .given _)
 
 mul-words : tie.Need-mul-words Inv-loop μ-loop
 mul-words c = search needs

@@ -1,17 +1,21 @@
--- How large the counts of the compatible sets are: of every network, and of one within 01's bounds. Assumes nothing.
-use mathlib.Core.Path.{_≡_}
-use Prim.Native.Nat.{ℕ, zero, suc, _+_, _*_, _≤_}
+-- The counts of the compatible sets: where each stands, and how large they are, of every network and within 01's bounds. Assumes nothing.
+use mathlib.Core.Path.{_≡_, ap, _∙_}
+use Prim.Native.Nat.{ℕ, zero, suc, _+_, _*_, _≤_, _<_}
 use native.Mathlib.Nat.{le-trans, add-le-add, mul-le-mul, suc-mul, pow-le-pow-right}
 use native.Mathlib.Omega.{arith}
+use lib.ListN.{getD}
 use Rattle.bits.specs.Bounds.{mostInputs}
 use Rattle.bits.proofs.Cuts.{count-le}
 use Rattle.network.specs.declared.Session.{Session}
+use Rattle.network.specs.declared.Answer.{Answer}
 use Rattle.network.specs.declared.Answer.the-variants.{Done}
 use Rattle.network.specs.Bounds.{mostGates}
 use Rattle.network.specs.Net.{Net, patterns}
 use Rattle.network.specs.Compatible.{compatible, compatibleCount, compatibleTotal}
 use Rattle.network.specs.Flat.{loadedNet, netOf}
 use Rattle.network.specs.State.{stateTest}
+use Rattle.network.specs.Calls.{countsFor, countsOf}
+use Rattle.network.proofs.FlatGates.{per-gate-at}
 use Rattle.network.proofs.Valid.{state-e, net-ok}
 
 module _ (N : Net) where
@@ -34,6 +38,13 @@ module _ (N : Net) where
 
     pub total-few : (g : ℕ) → g ≤ mostGates → compatibleTotal N g ≤ 40960
     total-few g l = le-trans (total-patterns g) (mul-le-mul l few-patterns)
+
+-- the count of gate g
+pub counts-at : (s : Session) → stateTest s ≡ Done → (g : ℕ) → g < s .m → getD (countsOf s .counts) g 0 ≡ compatibleCount (loadedNet s) (s .n + g)
+unfolding countsOf
+counts-at s v g l =
+    ap (λ (a : Answer). getD (countsFor a s .counts) g 0) v
+    ∙ per-gate-at (s .m) (λ g. compatibleCount (loadedNet s) (s .n + g)) g (omega (arith, net-ok s (state-e s v) .most)) l
 
 -- sixteen bits hold each of them
 pub counts-fit : (s : Session) → stateTest s ≡ Done → ((g : ℕ) → compatibleCount (loadedNet s) g ≤ 1024) × (compatibleTotal (loadedNet s) (s .m) ≤ 40960)
