@@ -4,8 +4,8 @@ use mathlib.Core.Logic.{_⊎_, inl, inr}
 use mathlib.Core.Bool.{true}
 use mathlib.Core.List.{List, [], _∷_}
 use Prim.Native.Nat.{ℕ, zero, suc, _^_, _<_, _≤_}
-use native.Mathlib.Nat.{pow-le-pow-right}
 use native.Mathlib.Omega.{arith}
+use lib.Pow.{pow-mono}
 use lib.ListN.{length, length-map}
 use Rattle.bits.specs.Bounds.{mostInputs}
 use Rattle.network.specs.declared.Session.{Session}
@@ -62,7 +62,7 @@ module _ (s : Session) (fresh : Fresh s) where
 
   patterns-few : patterns L ≤ 2 ^ mostInputs
   unfolding loadedNet netOf
-  patterns-few = pow-le-pow-right {n = 2} (omega arith) {i = s .n} {j = mostInputs} (net-ok s (fresh .valid) .ins)
+  patterns-few = pow-mono {j = mostInputs} (net-ok s (fresh .valid) .ins)
 
   sound-prints : (ps : List Pair) → Sound L [] (replacements ps) → (q : Reply) → Comes s ps q → Prints s ps q
   sound-prints ps a Open c = all-shown [] ps a

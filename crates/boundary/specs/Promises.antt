@@ -99,7 +99,7 @@ pub record Demand2Calls : Type 0 where
       → Gives (patternSetsCall ws words) (setWords (sessionIn ws) (sessionIn ws .m)) words [] []
   pub hidden : (ws out : List ℕ) → wordsTest ws ≡ Done → sessionIn ws .m ≤ length out
       → Gives (hiddenCall ws out) [] [] (places (sessionIn ws .m) (λ g. compatibleCount (loadedNet (sessionIn ws)) (sessionIn ws .n + g))) out
-  -- request Three: sixteen bits hold each of these words, and all of them added
+  -- request Three: sixteen bits hold each of these words, and the counts of all gates together
   pub countsFit : (ws out : List ℕ) → wordsTest ws ≡ Done → sessionIn ws .m ≤ length out
       → ((g : ℕ) → g < sessionIn ws .m → getD (hiddenCall ws out .out) g 0 ≤ 1024) × (compatibleTotal (loadedNet (sessionIn ws)) (sessionIn ws .m) ≤ 40960)
   pub write : (ws file out : List ℕ) → wordsTest ws ≡ Done → 1 ≤ length out → length (bytesOf (sessionIn ws)) ≤ length file

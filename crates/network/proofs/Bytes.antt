@@ -2,8 +2,8 @@
 use mathlib.Core.Path.{_≡_, refl}
 use mathlib.Core.List.{List, [], _∷_}
 use Prim.Native.Nat.{ℕ, _*_, _^_, _/_, _≤_, _<_}
-use native.Mathlib.Nat.{pow-le-pow-right}
 use native.Mathlib.Omega.{arith}
+use lib.Pow.{pow-mono}
 use lib.ListN.{length}
 use borrow.Author.Tests.{lt-ltb, le-ltb}
 use Rattle.bits.specs.Bounds.{mostInputs}
@@ -20,5 +20,5 @@ set-small n h = rw (lt-ltb n 3 h)
 
 pub set-large : (n r : ℕ) → 3 ≤ n → n ≤ mostInputs → r ≡ 2 ^ n → (r / 8 ≡ setBytes n) × (r / 8 ≤ mostSetBytes)
 set-large n r h l e =
-    let b : 2 ^ n ≤ 1024 = pow-le-pow-right {n = 2} (omega arith) {i = n} {j = mostInputs} l in
+    let b : 2 ^ n ≤ 1024 = pow-mono {j = mostInputs} l in
     (rw (e, le-ltb n 3 h), omega arith)

@@ -1,8 +1,9 @@
 -- The counts of the compatible sets: where each stands, and how large they are, of every network and within 01's bounds. Assumes nothing.
 use mathlib.Core.Path.{_≡_, ap, _∙_}
 use Prim.Native.Nat.{ℕ, zero, suc, _+_, _*_, _≤_, _<_}
-use native.Mathlib.Nat.{le-trans, add-le-add, mul-le-mul, suc-mul, pow-le-pow-right}
+use native.Mathlib.Nat.{le-trans, add-le-add, mul-le-mul, suc-mul}
 use native.Mathlib.Omega.{arith}
+use lib.Pow.{pow-mono}
 use lib.ListN.{getD}
 use Rattle.bits.specs.Bounds.{mostInputs}
 use Rattle.bits.proofs.Cuts.{count-le}
@@ -20,23 +21,23 @@ use Rattle.network.proofs.Valid.{state-e, net-ok}
 
 module _ (N : Net) where
   -- a set has at most all patterns
-  pub count-patterns : (s : ℕ) → compatibleCount N s ≤ patterns N
+  count-patterns : (s : ℕ) → compatibleCount N s ≤ patterns N
   unfolding compatibleCount
   count-patterns s = count-le (patterns N) (compatible N s)
 
   -- and those of g gates at most g times as many
-  pub total-patterns : (g : ℕ) → compatibleTotal N g ≤ g * patterns N
+  total-patterns : (g : ℕ) → compatibleTotal N g ≤ g * patterns N
   total-patterns zero = omega arith
   total-patterns (suc g) = rw (suc-mul g (patterns N)) (add-le-add (total-patterns g) (count-patterns (N .inputs + g)))
 
   module _ (h : N .inputs ≤ mostInputs) where
     few-patterns : patterns N ≤ 1024
-    few-patterns = pow-le-pow-right {n = 2} (omega arith) {i = N .inputs} {j = mostInputs} h
+    few-patterns = pow-mono {j = mostInputs} h
 
     pub count-few : (s : ℕ) → compatibleCount N s ≤ 1024
     count-few s = le-trans (count-patterns s) few-patterns
 
-    pub total-few : (g : ℕ) → g ≤ mostGates → compatibleTotal N g ≤ 40960
+    total-few : (g : ℕ) → g ≤ mostGates → compatibleTotal N g ≤ 40960
     total-few g l = le-trans (total-patterns g) (mul-le-mul l few-patterns)
 
 -- the count of gate g
