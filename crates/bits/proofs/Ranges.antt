@@ -12,7 +12,7 @@ use lib.Pow.{pow-mono}
 use lib.Seq.{getD-at, getD-set-same, getD-set-other}
 use borrow.Author.Tests.{eq-eqb, ne-eqb}
 use Rattle.bits.specs.Bounds.{smallFanins, smallWords}
-use Rattle.bits.specs.Range.{num, every, any, places}
+use Rattle.bits.specs.Range.{num, every, any, places, upFrom}
 use Rattle.bits.specs.Bit.{bit, number, tableOf, column}
 use Rattle.bits.proofs.BitLaws.{bit-zero, some-bit}
 use Rattle.bits.proofs.Shannon.{number-snoc}
@@ -216,3 +216,13 @@ changed-step f l₀ l i v h c e = (λ q lq. done q lq (ℕ-discrete q i), λ q l
     done : (q : ℕ) → q < i + 1 → Dec (q ≡ i) → getD (set l i v) q 0 ≡ f q (getD l₀ q 0)
     done q lq (yes s) = rw s (getD-set-same l i v 0 h ∙ e ∙ ap (f i) (c .1 i (omega arith)))
     done q lq (no n) = getD-set-other l i q v 0 n ∙ c .0 q (omega arith)
+
+-- ## The numbers from 0 on
+
+up-snoc : (a c : ℕ) → upFrom a (suc c) ≡ upFrom a c ++ (a + c) ∷ []
+up-snoc a zero = let q : a ≡ a + 0 = omega arith in ap (λ (x : ℕ). x ∷ []) q
+up-snoc a (suc c) = let q : a + 1 + c ≡ a + suc c = omega arith in ap (λ (l : List ℕ). a ∷ l) (up-snoc (a + 1) c ∙ ap (λ (x : ℕ). upFrom (a + 1) c ++ x ∷ []) q)
+
+pub up-places : (c : ℕ) → upFrom 0 c ≡ places c (λ i. i)
+up-places zero = refl
+up-places (suc c) = let q : 0 + c ≡ c = omega arith in up-snoc 0 c ∙ rw q (ap (λ (l : List ℕ). l ++ c ∷ []) (up-places c))

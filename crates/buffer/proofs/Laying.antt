@@ -1,12 +1,12 @@
 -- What is laid one stretch after the other, and place after place. Assumes nothing.
 use mathlib.Core.Path.{_≡_, refl, sym, ap, _∙_}
 use mathlib.Core.List.{List, [], _∷_, _++_}
-use Prim.Native.Nat.{ℕ, zero, suc, _+_, _≤_, _<_}
+use Prim.Native.Nat.{ℕ, zero, suc, _+_, _-_, _≤_, _<_}
 use native.Mathlib.Numerals.{add-one}
 use native.Mathlib.Nat.{add-zero}
 use native.Mathlib.Omega.{arith}
 use lib.ListN.{length, getD, take, drop, set, length-append, length-drop, drop-of-length-le}
-use lib.Seq.{sets, sets-eq, take-suc, drop-cons, getD-drop, length-sets}
+use lib.Seq.{sets, sets-eq, take-suc, take-append-seam, drop-cons, getD-drop, length-sets}
 use Rattle.bits.specs.Range.{places}
 use Rattle.bits.specs.Lists.{overwritten}
 use Rattle.buffer.specs.Laid.{Room, Laid}
@@ -47,6 +47,14 @@ laid-start buffer new after r h l =
     let p = l .behind in
     let q : 0 + length new ≡ length new = omega arith in
     (omega arith, l .buffer ∙ rw q at (sets-eq new buffer 0 (omega arith)))
+
+-- and read off again
+pub laid-part : {b b₁ : List ℕ} {n : ℕ} (new : List ℕ) → Laid b 0 new b₁ n → length new ≤ length b → take (n - 0) (drop 0 b₁) ≡ new
+laid-part {b} {b₁} {n} new l h =
+    let k = l .behind in
+    let w = laid-start b new b₁ n h l in
+    let q : n - 0 ≡ length new = omega arith in
+    rw (q, w .1) (take-append-seam new (drop (length new) b))
 
 -- two and four stretches, each at the place behind the one before
 laid : {b₁ : List ℕ} {r : ℕ} (b xs : List ℕ) (at : ℕ) → b₁ ≡ sets b at xs → r ≡ at + length xs → Laid b at xs b₁ r

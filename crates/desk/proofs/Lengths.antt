@@ -14,7 +14,7 @@ use Rattle.bits.specs.Bit.{bit}
 use Rattle.bits.proofs.Ranges.{by-cases, length-places}
 use Rattle.network.specs.declared.Session.{Session}
 use Rattle.network.specs.declared.Refusal.{Refusal}
-use Rattle.network.specs.declared.Refusal.the-variants.{Truncated, UnexpectedMark, OutOfBounds, FaninNotEarlier, FaninRepeated, BitPastEnd, NotASignal, TrailingBytes, BufferTooShort, InvalidState, NotAGate, TableTooWide, ClosedEntry, Harm, ListsUnequal, GateRepeated}
+use Rattle.network.specs.declared.Refusal.the-variants.{Truncated, UnexpectedMark, OutOfBounds, FaninNotEarlier, FaninRepeated, BitPastEnd, NotASignal, TrailingBytes, BufferTooShort, InvalidState, NotAGate, TableTooWide, ClosedEntry, Harm, ListsUnequal, GateRepeated, OutsideSubset, BadName}
 use Rattle.network.specs.declared.Answer.{Answer}
 use Rattle.network.specs.declared.Answer.the-variants.{Done, Refused}
 use Rattle.network.specs.Bounds.{mostFanins}
@@ -100,6 +100,8 @@ file-length r = let a = refused-length (numberOf r) (getD reasons (numberOf r - 
     reason-length (Harm x i) = omega arith
     reason-length ListsUnequal = omega arith
     reason-length GateRepeated = omega arith
+    reason-length OutsideSubset = omega arith
+    reason-length BadName = omega arith
 
 no-gate-length : (gate : List ℕ) → length gate ≤ mostOrderBytes - 2 → length (pairRefusedLine NotAGate gate) ≤ mostRefusalBytes
 unfolding pairRefusedLine refusedLine decimal

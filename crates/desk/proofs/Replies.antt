@@ -9,7 +9,7 @@ use lib.ListN.{getD}
 use Rattle.bits.proofs.Ranges.{and-l, and-r}
 use Rattle.network.specs.declared.Session.{Session}
 use Rattle.network.specs.declared.Refusal.{Refusal}
-use Rattle.network.specs.declared.Refusal.the-variants.{Truncated, UnexpectedMark, OutOfBounds, FaninNotEarlier, FaninRepeated, BitPastEnd, NotASignal, TrailingBytes, BufferTooShort, InvalidState, NotAGate, TableTooWide, ClosedEntry, Harm, ListsUnequal, GateRepeated}
+use Rattle.network.specs.declared.Refusal.the-variants.{Truncated, UnexpectedMark, OutOfBounds, FaninNotEarlier, FaninRepeated, BitPastEnd, NotASignal, TrailingBytes, BufferTooShort, InvalidState, NotAGate, TableTooWide, ClosedEntry, Harm, ListsUnequal, GateRepeated, OutsideSubset, BadName}
 use Rattle.network.specs.declared.Answer.{Answer}
 use Rattle.network.specs.declared.Answer.the-variants.{Done, Refused}
 use Rattle.network.specs.Net.{Net, Replacement, signals, newTables, replaced}
@@ -62,6 +62,8 @@ back-refused BufferTooShort k = refl
 back-refused (ClosedEntry t) k = refl
 back-refused ListsUnequal k = refl
 back-refused GateRepeated k = refl
+back-refused OutsideSubset k = refl
+back-refused BadName k = refl
 
 back-either : (b : Bool) → back (cond b Open Alone) ≡ Done
 back-either true = refl

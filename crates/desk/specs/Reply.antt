@@ -4,7 +4,7 @@ use mathlib.Core.List.{List, [], map}
 use Prim.Native.Nat.{ℕ}
 use Rattle.network.specs.declared.Session.{Session}
 use Rattle.network.specs.declared.Refusal.{Refusal}
-use Rattle.network.specs.declared.Refusal.the-variants.{Truncated, UnexpectedMark, OutOfBounds, FaninNotEarlier, FaninRepeated, BitPastEnd, NotASignal, TrailingBytes, BufferTooShort, InvalidState, NotAGate, TableTooWide, ClosedEntry, Harm, ListsUnequal, GateRepeated}
+use Rattle.network.specs.declared.Refusal.the-variants.{Truncated, UnexpectedMark, OutOfBounds, FaninNotEarlier, FaninRepeated, BitPastEnd, NotASignal, TrailingBytes, BufferTooShort, InvalidState, NotAGate, TableTooWide, ClosedEntry, Harm, ListsUnequal, GateRepeated, OutsideSubset, BadName}
 use Rattle.network.specs.declared.Answer.{Answer}
 use Rattle.network.specs.declared.Answer.the-variants.{Done, Refused}
 use Rattle.network.specs.Net.{Replacement}
@@ -40,6 +40,8 @@ refusedReply BufferTooShort k = FileRefused BufferTooShort
 refusedReply InvalidState k = FileRefused InvalidState
 refusedReply (ClosedEntry t) k = FileRefused (ClosedEntry t)
 refusedReply ListsUnequal k = FileRefused ListsUnequal
+refusedReply OutsideSubset k = FileRefused OutsideSubset
+refusedReply BadName k = FileRefused BadName
 
 -- the reply by a verdict, where k pairs stand before the first that is refused, and opens tells whether each would be accepted
 abbrev pub replyWith : Answer → (k : ℕ) → (opens : Bool) → Reply

@@ -36,7 +36,7 @@ abbrev pub Wide : List ℕ → Type 0
 Wide ws = (w : ℕ) → getD ws w 0 < 2 ^ 64
 
 -- a gate that stands for one that passes
-gate-valid : (t : Session) (i k : ℕ) (fs : List ℕ) (lt ct : ℕ) → GateIs k fs lt ct t i → countTest mostFanins k ≡ Done → faninsTest (t .n + i) fs ≡ Done
+pub gate-valid : (t : Session) (i k : ℕ) (fs : List ℕ) (lt ct : ℕ) → GateIs k fs lt ct t i → countTest mostFanins k ≡ Done → faninsTest (t .n + i) fs ≡ Done
     → widthTest (2 ^ k) lt ≡ Done → widthTest (2 ^ k) ct ≡ Done → GateValid t i
 gate-valid t i k fs lt ct is a b c d =
     let ar = is .arity-is in
@@ -168,13 +168,13 @@ module _ (bytes : List ℕ) where
 
 -- ## The words of the excluded set
 
-no-bits : (n : ℕ) → excludedTest n (replicate excludedWords 0) ≡ Done
+pub no-bits : (n : ℕ) → excludedTest n (replicate excludedWords 0) ≡ Done
 unfolding excludedTest
 no-bits n =
     each-i (λ w. widthTest (2 ^ n - 64 * w) (getD (replicate excludedWords 0) w 0)) excludedWords
     (λ w l. width-i (2 ^ n - 64 * w) (getD (replicate excludedWords 0) w 0) (rw (getD-replicate {A = ℕ} excludedWords w 0 0 l) (pow-pos (2 ^ n - 64 * w))))
 
-zero-wide : Wide (replicate excludedWords 0)
+pub zero-wide : Wide (replicate excludedWords 0)
 zero-wide w = by (decLt w excludedWords)
   where
     by : Dec (w < excludedWords) → getD (replicate excludedWords 0) w 0 < 2 ^ 64
@@ -242,7 +242,7 @@ sound-valid bytes u s =
 
 -- ## Load, with the open tables
 
-done-whole : (l : Loaded) → l .answer ≡ Done → l ≡ loadDone (l .session)
+pub done-whole : (l : Loaded) → l .answer ≡ Done → l ≡ loadDone (l .session)
 done-whole l e = ap (λ (a : Answer). record { answer = a; session = l .session }) e
 
 -- a load that is Done read a network and opened it
@@ -270,7 +270,7 @@ pub opened-current : (t : Session) → currentNet (opened t) ≡ currentNet t
 unfolding currentNet
 opened-current t = refl
 
-opened-length : (t : Session) → length (opened t .open_tables) ≡ mostGates
+pub opened-length : (t : Session) → length (opened t .open_tables) ≡ mostGates
 unfolding openTables
 opened-length t = length-places mostGates (λ g. cond (ltb g (length (loadedNet t .gates))) (openTable (loadedNet t) (loadedNet t .inputs + g)) 0)
 

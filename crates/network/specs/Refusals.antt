@@ -4,7 +4,7 @@ use mathlib.Core.List.{List, [], _∷_}
 use Prim.Native.Nat.{ℕ, _≤_}
 use lib.ListN.{take}
 use Rattle.network.specs.declared.Refusal.{Refusal}
-use Rattle.network.specs.declared.Refusal.the-variants.{Truncated, UnexpectedMark, OutOfBounds, FaninNotEarlier, FaninRepeated, BitPastEnd, NotASignal, TrailingBytes, BufferTooShort, InvalidState, NotAGate, TableTooWide, ClosedEntry, Harm, ListsUnequal, GateRepeated}
+use Rattle.network.specs.declared.Refusal.the-variants.{Truncated, UnexpectedMark, OutOfBounds, FaninNotEarlier, FaninRepeated, BitPastEnd, NotASignal, TrailingBytes, BufferTooShort, InvalidState, NotAGate, TableTooWide, ClosedEntry, Harm, ListsUnequal, GateRepeated, OutsideSubset, BadName}
 use Rattle.network.specs.declared.Named.{Named}
 use Rattle.network.specs.declared.Answer.{Answer}
 use Rattle.network.specs.declared.Answer.the-variants.{Done, Refused}
@@ -47,6 +47,10 @@ told (Harm x i) = (14, x ∷ i ∷ [])
 told ListsUnequal = (15, [])
 -- 16 verdict: a gate named a second time
 told GateRepeated = (16, [])
+-- 17 BLIF: a line outside the subset
+told OutsideSubset = (17, [])
+-- 18 BLIF: a name unknown where used, defined twice or listed twice
+told BadName = (18, [])
 
 abbrev pub numberOf : Refusal → ℕ
 numberOf r = told r .0
@@ -58,7 +62,7 @@ valuesOf r = told r .1
 pub record Tells (r : Refusal) (t : Named) : Type 0 where
   pub number : t .0 ≡ numberOf r
   pub values : take (t .1) (t .2) ≡ valuesOf r
-  pub small : t .0 ≤ 16
+  pub small : t .0 ≤ 18
   pub few : t .1 ≤ 2
 
 -- ## An answer in 01's numbers: nothing where the call is not refused, else the refusal's number and its values

@@ -57,7 +57,7 @@ pub struct Session {
     pub outputs: [u8; MOST_OUTPUTS],
 }
 
-// Why a call is refused, in the order of the numbers 1 to 16.
+// Why a call is refused, in the order of the numbers 1 to 18.
 pub enum Refusal {
     Truncated,
     UnexpectedMark,
@@ -75,6 +75,8 @@ pub enum Refusal {
     Harm { pattern: usize, output: usize },
     ListsUnequal,
     GateRepeated,
+    OutsideSubset,
+    BadName,
 }
 
 // A refusal in numbers: its number, how many values it names, and these from the start.
@@ -189,12 +191,14 @@ pub fn told(r: Refusal) -> Named
         Refusal::Harm { pattern, output } => Named(14, 2, [pattern as u64, output as u64]),
         Refusal::ListsUnequal => Named(15, 0, [0; 2]),
         Refusal::GateRepeated => Named(16, 0, [0; 2]),
+        Refusal::OutsideSubset => Named(17, 0, [0; 2]),
+        Refusal::BadName => Named(18, 0, [0; 2]),
     }
 }
 
 // The refusal's number.
 pub fn number_of(r: Refusal) -> u64
-    ensures { λ k. ⌜ (k ≡ numberOf r) × (k ≤ 16) ⌝ }
+    ensures { λ k. ⌜ (k ≡ numberOf r) × (k ≤ 18) ⌝ }
 {
     let t = told(r);
     t.0

@@ -9,9 +9,9 @@ use lib.Dec.{leb, ltb}
 use lib.ListN.{length, getD, drop, drop-of-length-le}
 use borrow.Author.Tests.{leb-true, ltb-true, le-leb, lt-leb}
 use Rattle.bits.proofs.Ranges.{and-l, and-r}
-use Rattle.text.specs.Words.{Text, all}
+use Rattle.text.specs.Words.{Text, between, isPrinting, all}
 use Rattle.text.proofs.Places.{split-at, all-at}
-use Rattle.ordertext.specs.Order.{isGap, gapIs, isPrinting, isEquals, between, digitOf, digits, isNumeral, onward, beforeLast, nameLength, tableText, isPair}
+use Rattle.ordertext.specs.Order.{isGap, gapIs, isEquals, digitOf, digits, isNumeral, onward, beforeLast, nameLength, tableText, isPair}
 
 -- the test of a byte by what is asked of it
 asked-is : (w c : Bool) (b : ℕ) → c ≡ isGap b → gapIs w b ≡ Bool·beq c w

@@ -5,7 +5,7 @@ use Prim.Native.Nat.{ℕ, zero, suc, _+_, _-_, _*_, _/_}
 use lib.Dec.{leb, ltb, eqb}
 use lib.ListN.{length, getD, take, drop}
 use Rattle.network.specs.Net.{Replacement}
-use Rattle.text.specs.Words.{Text, words, all}
+use Rattle.text.specs.Words.{Text, between, isPrinting, words, all}
 
 -- ## Bounds
 
@@ -27,13 +27,6 @@ isGap b = eqb b 0x20 || (eqb b 0x09 || (eqb b 0x0D || eqb b 0x0A))
 abbrev pub gapIs : (wanted : Bool) → ℕ → Bool
 gapIs true b = isGap b
 gapIs false b = not (isGap b)
-
-abbrev pub between : (least most : ℕ) → ℕ → Bool
-between least most b = leb least b && leb b most
-
--- what words are made of
-abbrev pub isPrinting : ℕ → Bool
-isPrinting b = between 0x21 0x7E b
 
 abbrev pub isEquals : ℕ → Bool
 isEquals b = eqb b 0x3D

@@ -3,8 +3,8 @@ ghost use mathlib.Core.Path.{_≡_};
 ghost use mathlib.Core.Bool.{true};
 ghost use Prim.Native.Nat.{_+_, _^_, _≤_, _<_};
 ghost use lib.ListN.{length, drop};
-ghost use Rattle.text.specs.Words.{before, all};
-ghost use Rattle.ordertext.specs.Order.{mostOrderBytes, isGap, gapIs, isPrinting, between, digitOf, digits, isNumeral, numeral, nameLength, isPair, signalNamed};
+ghost use Rattle.text.specs.Words.{between, isPrinting, before, all};
+ghost use Rattle.ordertext.specs.Order.{mostOrderBytes, isGap, gapIs, digitOf, digits, isNumeral, numeral, nameLength, isPair, signalNamed};
 ghost use Rattle.ordertext.specs.Reads.{splitOf, pairIn, countIn, Reads};
 
 // The bytes of an order's text, and its pairs: each takes 4 bytes with the gap before it.

@@ -3,15 +3,12 @@ use mathlib.Core.Path.{_≡_, refl, sym, ap, ap₂, _∙_}
 use mathlib.Core.List.{List}
 use Prim.Native.Nat.{ℕ, zero, suc, _+_, _-_, _≤_, _<_}
 use native.Mathlib.Omega.{arith}
-use lib.ListN.{length, getD, take, drop}
-use lib.Seq.{take-append-le, take-length}
+use lib.ListN.{length, getD}
 use borrow.Author.Tests.{lt-ltb, le-ltb}
 use Rattle.bits.specs.Bounds.{mostInputs}
 use Rattle.bits.specs.Range.{count}
 use Rattle.bits.specs.Bit.{bit}
 use Rattle.bits.specs.Lists.{overwritten}
-use Rattle.buffer.specs.Laid.{Laid}
-use Rattle.buffer.proofs.Laying.{laid-start}
 use Rattle.network.specs.declared.Session.{Session}
 use Rattle.network.specs.declared.Loaded.{Loaded}
 use Rattle.network.specs.declared.Answer.the-variants.{Done, Refused}
@@ -35,7 +32,7 @@ use Rattle.dontcares.specs.Tabled.{Tabled}
 use Rattle.engine.specs.declared.Counted.{Counted}
 use Rattle.engine.specs.Counted.{countedOf}
 use Rattle.render.specs.declared.Columns.{Columns}
-use Rattle.render.specs.Listing.{rows, setEntries, refusedLine, listingOfNet, listingOf, listingInto, mostListingBytes}
+use Rattle.render.specs.Listing.{rows, setEntries, refusedLine, listingOfNet, listingOf, listingInto}
 use Rattle.render.specs.Text.{rowsAt, textOf, Ready}
 
 -- ## The columns of a network
@@ -128,14 +125,6 @@ module _ (bytes : List ℕ) (c : Counted) (e : c ≡ countedOf bytes) where
   unfolding countedOf
   counted-counts =
       ap {B = List ℕ} (λ (x : Counted). x .counts) e ∙ ap {B = List ℕ} (λ (x : Loaded). countsOf (x .session) .counts) (sym counted-load)
-
--- the text that was laid at a buffer's start, as a part of it
-pub text-part : {b b₁ : List ℕ} {n : ℕ} (text : List ℕ) → Laid b 0 text b₁ n → length text ≤ mostListingBytes → mostListingBytes ≤ length b → take (n - 0) (drop 0 b₁) ≡ text
-text-part {b} {b₁} {n} text l few h =
-    let k = l .behind in
-    let w = laid-start b text b₁ n (omega arith) l in
-    let q : n - 0 ≡ length text = omega arith in
-    rw (q, w .1) (take-append-le (length text) text (drop (length text) b) (omega arith) ∙ take-length text)
 
 module _ (bytes buffer : List ℕ) where
   pub into-short : length buffer < length (listingOf bytes) → listingInto bytes buffer ≡ record { answer = Refused BufferTooShort; buffer = buffer }

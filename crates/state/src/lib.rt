@@ -48,7 +48,7 @@ pub fn counts_test(n: u8, m: u8, p: u8) -> Answer
 }
 
 // Whether x is one of the bytes.
-fn member(fs: &[u8], x: u8) -> bool
+pub fn member(fs: &[u8], x: u8) -> bool
     ensures { λ r. ⌜ r ≡ tests.member x (now (fs .entry)) ⌝ }
 {
     let mut t: usize = 0;

@@ -2,10 +2,18 @@
 use mathlib.Core.Bool.{Bool, true, false, cond, _&&_}
 use mathlib.Core.List.{List, [], _∷_}
 use Prim.Native.Nat.{ℕ}
+use lib.Dec.{leb}
 
 -- the bytes of a text or of a part of it
 abbrev pub Text : Type 0
 Text = List ℕ
+
+abbrev pub between : (least most : ℕ) → ℕ → Bool
+between least most b = leb least b && leb b most
+
+-- what words are made of
+abbrev pub isPrinting : ℕ → Bool
+isPrinting b = between 0x21 0x7E b
 
 -- the parts of b ∷ bs from those of bs: b cuts, or goes to the front of the first
 abbrev pub partWith : (cuts : Bool) → ℕ → List Text → List Text

@@ -6,7 +6,7 @@ use denote.Enum.Declared.{tagOf}
 use types.Run.{OneOf, miss}
 use borrow.Author.Needs.{needs}
 use Rattle.network.specs.declared.Refusal.{Refusal}
-use Rattle.network.specs.declared.Refusal.the-variants.{Truncated, UnexpectedMark, OutOfBounds, FaninNotEarlier, FaninRepeated, BitPastEnd, NotASignal, TrailingBytes, BufferTooShort, InvalidState, NotAGate, TableTooWide, ClosedEntry, Harm, ListsUnequal, GateRepeated}
+use Rattle.network.specs.declared.Refusal.the-variants.{Truncated, UnexpectedMark, OutOfBounds, FaninNotEarlier, FaninRepeated, BitPastEnd, NotASignal, TrailingBytes, BufferTooShort, InvalidState, NotAGate, TableTooWide, ClosedEntry, Harm, ListsUnequal, GateRepeated, OutsideSubset, BadName}
 use Rattle.network.proofs.Refusal.{the-type}
 use Rattle.desk.specs.declared.Reply.the-variants.{FileRefused}
 use Rattle.desk.specs.Reply.{refusedReply}
@@ -15,7 +15,7 @@ use Rattle.judging.proofs.refused_reply.Tie as tie
 
 -- every refusal but those of a pair and harm, by their places in the enum
 abbrev others : List ℕ
-others = 0 ∷ 1 ∷ 2 ∷ 3 ∷ 4 ∷ 5 ∷ 6 ∷ 7 ∷ 8 ∷ 9 ∷ 12 ∷ 14 ∷ []
+others = 0 ∷ 1 ∷ 2 ∷ 3 ∷ 4 ∷ 5 ∷ 6 ∷ 7 ∷ 8 ∷ 9 ∷ 12 ∷ 14 ∷ 16 ∷ 17 ∷ []
 
 other : (r : Refusal) (k : ℕ) → OneOf others (tagOf the-type r) → FileRefused r ≡ refusedReply r k
 other Truncated k h = refl
@@ -34,6 +34,8 @@ other (ClosedEntry t) k h = refl
 other (Harm x i) k h = absurd (miss others 13 tt h)
 other ListsUnequal k h = refl
 other GateRepeated k h = absurd (miss others 15 tt h)
+other OutsideSubset k h = refl
+other BadName k h = refl
 
 enum-known-r : tie.Need-enum-known-r
 enum-known-r c = search needs

@@ -8,7 +8,7 @@ enum-known-k : tie.Need-enum-known-k
 enum-known-k c = search needs
 
 returns : tie.Need-returns
-returns c = search needs
+returns c = rw (c .before .k .given .1)
 
 returns-2 : tie.Need-returns-2
 returns-2 c = unexpected (c .before .args .k) (apart (0 ∷ 1 ∷ 2 ∷ 3 ∷ []) _ 4 tt (c .match .keys2))

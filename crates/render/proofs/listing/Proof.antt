@@ -3,9 +3,9 @@ use Prim.Native.Nat.{_≤_, _<_}
 use native.Mathlib.Omega.{arith}
 use lib.ListN.{length}
 use borrow.Author.Needs.{needs}
-use Rattle.buffer.proofs.Laying.{laid-start}
+use Rattle.buffer.proofs.Laying.{laid-start, laid-part}
 use Rattle.render.specs.Listing.{listingOf}
-use Rattle.render.proofs.Shown.{text-part, into-short, into-done}
+use Rattle.render.proofs.Shown.{into-short, into-done}
 use Rattle.render.proofs.Lengths.{listing-length, listing-ends}
 use Rattle.render.proofs.listing.Statement.{statement}
 use Rattle.render.proofs.listing.Tie as tie
@@ -50,7 +50,8 @@ returns-2 c =
     let l = p .put-listing .ensures in
     let n = l .behind in
     let h : length text ≤ length (x .buf .now) = omega arith in
-    let q = text-part text l (listing-length (x .bytes .now)) (search needs) in
+    let few = listing-length (x .bytes .now) in
+    let q = laid-part text l (omega arith) in
     let w = laid-start (x .buf .now) text (k .copy .last .0) (k .copy .result) h (rw q at (k .copy .ensures)) in
     rw (w .0, w .1, into-done (x .bytes .now) (x .buf .now) h)
 
