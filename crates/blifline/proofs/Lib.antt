@@ -1,0 +1,4 @@
+pub mod Covers
+pub mod Lists
+pub mod Tests
+pub mod Holds

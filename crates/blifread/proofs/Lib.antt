@@ -1,0 +1,4 @@
+pub mod Steps
+pub mod Rowwise
+pub mod Blockwise
+pub mod Phases

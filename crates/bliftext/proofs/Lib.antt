@@ -1,0 +1,4 @@
+pub mod Bytewise
+pub mod Lines
+pub mod Names
+pub mod Spans
