@@ -1,0 +1,15 @@
+pub mod Names
+pub mod Covers
+pub mod Blocks
+pub mod Built
+pub mod Back
+pub mod Outgoing
+pub mod Trip
+pub mod Length
+pub mod Longest
+pub mod Ends
+pub mod Tidy
+pub mod Places
+pub mod Drafts
+pub mod Gives
+pub mod SameWords
