@@ -20,10 +20,11 @@ use Rattle.network.proofs.Exchanges.{after-loaded, after-open}
 use Rattle.network.proofs.Together.{together}
 use Rattle.network.proofs.Inside.{rule4-loaded}
 use Rattle.boundary.specs.Boundary.{Left, numberFor, tableWords, tablesCall, verdictCall, verdictCallOn, exchangeCall}
-use Rattle.boundary.specs.Promises.{Asked, wordsAfter, askedAnswer, roomy, Holds, AcceptableCalls, AfterCalls, AfterCallsOf}
+use Rattle.boundary.specs.Promises.{Asked, wordsAfter, askedAnswer, roomy, Holds}
+use Rattle.boundary.specs.AfterCalls.{AcceptableCalls, AfterCalls, AfterCallsOf}
 use Rattle.boundary.proofs.Names.{number-said, zero-done}
 use Rattle.boundary.proofs.Demand2Calls.{verdict-left, demand2-calls}
-use Rattle.boundary.proofs.Demand3Calls.{Ready, demand3-calls, call-after, loaded-ready}
+use Rattle.boundary.proofs.Demand3Calls.{Ready, demand3-calls, call-after, loaded-ready, blif-ready}
 
 -- ## An exchange that is accepted
 
@@ -90,4 +91,7 @@ module _ {ws : List ℕ} {s : Session} (at : Ready ws s) (list : List Asked) whe
   }
 
 pub after-calls-of : AfterCallsOf
-after-calls-of file session list z = after-calls (loaded-ready file session z) list
+after-calls-of = record {
+  load = λ file session list z. after-calls (loaded-ready file session z) list;
+  readBlif = λ text session list z. after-calls (blif-ready text session z) list;
+}

@@ -14,14 +14,23 @@ use Rattle.network.specs.Load.{outputRecord, readOutputs, gateRecord, readGates
 use Rattle.network.specs.Write.{headerBytes, excludedBytes, gateBytes, outputBytes, bytesOf}
 use Rattle.network.specs.Calls.{gateTest, tableTest, alters, closedTest, harmTest, exchangeAnswer, lengthsTest, pairTest, verdictOf, patternSetsOf, writeOf}
 use Rattle.network.specs.Sessions.{answerBy}
+use Rattle.text.specs.Words.{words}
+use Rattle.blif.specs.Text.{statement, statements}
+use Rattle.blif.specs.Cover.{coverTable}
+use Rattle.blif.specs.Read.{readBlocks, readInputs, readOutputs as readOutputsLine, readModel, readBlif, readBlifOf}
+use Rattle.blif.specs.Write.{outgoing, linesOf, blifText, copiesTest}
 use Rattle.render.specs.Listing.{refusedLine, listingOf, listingInto}
 use Rattle.packed.specs.Packed.{packedOf, sessionIn, bytesTest, wordsTest}
-use Rattle.boundary.specs.Boundary.{loadCall, listingCall, tablesCall, allTablesCall, patternSetsCall, hiddenCall, verdictCall, exchangeCall, writeCall}
-use Rattle.boundary.specs.Cases.{cases, inTurn}
+use Rattle.boundary.specs.Boundary.{loadCall, readBlifCall, listingCall, tablesCall, allTablesCall, patternSetsCall, hiddenCall, verdictCall, exchangeCall, writeCall, writeBlifCall}
+use Rattle.boundary.specs.Cases.{cases, blif, inTurn}
 
 pub cases-hold : Hold cases
 unfolding bit isGate excluded excludedFor occurs patternOrder entry values sdc cdc valuesInverted odc full harms agree constant turns freeFanins atOutputs compatibleFrom compatible compatibleCount delivers closed openTable openTables gateAt gatesOf netOf loadedNet currentNet wordOf wordsOf markTest faninTest faninsTest excludedTest gateFault stateFault stateTest outputRecord readOutputs gateRecord readGates excludedRecord readBody headerRecord readOf loadOf headerBytes excludedBytes gateBytes outputBytes bytesOf gateTest tableTest alters closedTest harmTest exchangeAnswer lengthsTest pairTest verdictOf patternSetsOf writeOf wordCount packedOf sessionIn bytesTest wordsTest decimal refusedLine listingOf listingInto loadCall listingCall tablesCall allTablesCall patternSetsCall hiddenCall verdictCall exchangeCall writeCall
 cases-hold = refl
+
+pub blif-hold : Hold blif
+unfolding bit isGate excluded excludedFor occurs patternOrder entry values agree constant turns freeFanins atOutputs compatibleFrom compatible delivers closed openTable openTables gateAt gatesOf netOf loadedNet currentNet faninTest faninsTest excludedTest gateFault stateFault stateTest packedOf sessionIn bytesTest wordsTest decimal words statement statements coverTable readBlocks readInputs readOutputsLine readModel readBlif readBlifOf outgoing linesOf blifText copiesTest readBlifCall writeBlifCall
+blif-hold = refl
 
 pub in-turn-hold : Hold inTurn
 unfolding bit isGate excluded excludedFor occurs patternOrder entry values agree constant turns freeFanins atOutputs compatibleFrom compatible delivers closed gateAt gatesOf netOf loadedNet faninTest faninsTest excludedTest gateFault stateFault stateTest gateTest tableTest alters closedTest exchangeAnswer answerBy packedOf sessionIn bytesTest wordsTest exchangeCall

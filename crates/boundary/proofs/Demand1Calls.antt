@@ -1,15 +1,16 @@
 -- Demand 1 of the calls: each ends in one of its outcomes. Its tests are gone through in their order, and each refusal gives its
 -- number. Assumes nothing.
-use mathlib.Core.Path.{_≡_, refl, ap, _∙_}
+use mathlib.Core.Path.{_≡_, refl, sym, ap, _∙_}
 use mathlib.Core.Logic.{_⊎_, inl, inr, ⊎-elim}
 use mathlib.Core.Bool.{Bool, true, false, _||_}
 use mathlib.Core.List.{List, [], _∷_, _++_}
 use Prim.Native.Nat.{ℕ, zero, suc, _+_, _*_, _-_, _≤_}
 use native.Mathlib.Omega.{arith}
 use lib.Dec.{eqb}
+use borrow.Author.Tests.{eq-eqb}
 use lib.ListN.{length, set, length-append, length-set}
 use Rattle.bits.specs.Range.{places}
-use Rattle.bits.proofs.Ranges.{length-places}
+use Rattle.bits.proofs.Ranges.{or-r, length-places}
 use Rattle.bits.proofs.Logic.{clash}
 use Rattle.network.specs.declared.Session.{Session}
 use Rattle.network.specs.declared.Loaded.{Loaded}
@@ -22,21 +23,19 @@ use Rattle.network.specs.Flat.{loadedNet}
 use Rattle.network.specs.Refusals.{numberOf}
 use Rattle.network.specs.Tests.{first, member}
 use Rattle.network.specs.State.{stateTest}
-use Rattle.network.specs.Load.{loadOf}
 use Rattle.network.specs.Write.{bytesOf}
 use Rattle.network.specs.Calls.{harmTest, heldClosed, exchangeTests, exchangeAnswer, lengthsTest, pairs, pairsTest, verdictOf, gateTables, stored, roomTest, setWords, patternSetsOf, writeOf}
 use Rattle.network.proofs.Slots.{sized-current}
 use Rattle.network.proofs.ByTest.{Before, room-by, state-by, gate-by, table-by, closed-by, harm-by, lengths-by, first-by, pairs-by}
-use Rattle.network.proofs.Reached.{loaded-sized}
+use Rattle.blif.specs.Write.{blifText}
+use Rattle.bliftrip.proofs.Ends.{copies-by}
 use Rattle.render.specs.Listing.{listingOf, listingInto}
 use Rattle.engine.specs.Demands.{allInPlace}
-use Rattle.engine.proofs.Outcomes.{file}
-use Rattle.engine.proofs.Demands.{demand1}
 use Rattle.packed.specs.Packed.{packedOf, sessionWords, sessionIn, wordsTest}
 use Rattle.packed.proofs.Inverse.{packed-length}
-use Rattle.boundary.specs.Boundary.{left, tableWords, tablesRoom, tablesWork, allTableWords, verdictWork, exchangeWork, loadAnswer, loadCall, listingCall, tablesCall, allTablesCall, patternSetsCall, hiddenCall, verdictCall, exchangeCall, writeCall}
+use Rattle.boundary.specs.Boundary.{valuesFor, left, tableWords, tablesRoom, tablesWork, allTableWords, verdictWork, exchangeWork, writeBlifWork, readAnswer, readCall, loadCall, readBlifCall, listingCall, tablesCall, allTablesCall, patternSetsCall, hiddenCall, verdictCall, exchangeCall, writeCall, writeBlifCall}
 use Rattle.boundary.specs.Promises.{Gives, Refuses, Names, Ends, Demand1Calls}
-use Rattle.boundary.proofs.Names.{nameless}
+use Rattle.boundary.proofs.Readers.{read-room, Reader, load-reader, blif-reader}
 use Rattle.boundary.proofs.Tested.{session-by, fillAnswer, Filling, fill-by, words-long, words-sized}
 
 -- ## Lengths
@@ -63,13 +62,6 @@ stored-room ws r e =
     let z = words-sized ws e in
     let ts = set (s .current) (r .signal - s .n) (r .table) in
     let n = packed-length (stored s r) (sized-current s ts (length-set (s .current) (r .signal - s .n) (r .table) ∙ z .currents) z) in
-    omega arith
-
--- there is room for a loaded session
-pub loaded-room : (bytes session : List ℕ) → loadOf bytes .answer ≡ Done → sessionWords ≤ length session → length (packedOf (loadOf bytes .session)) ≤ length session
-loaded-room bytes session e l =
-    let s = loadOf bytes .session in
-    let n = packed-length s (loaded-sized bytes s (ap (λ (a : Answer). record { answer = a; session = s }) e)) in
     omega arith
 
 -- ## The calls
@@ -118,6 +110,19 @@ module _ (ws : List ℕ) where
       session-by Q ws out (record { room = room; tests = fillAnswer s new buffer ∷ []; given = given; new = new }) short bad
       (λ v o. fill-by (Before Q Done) new buffer s bad short (λ b. inl (b, omega arith, refl)))
 
+  -- 3 before the room of `out`
+  write-blif-ends : (text out : List ℕ) → Ends (writeBlifCall ws text out) (blifText s) text (length (blifText s) ∷ []) out (3 ∷ 9 ∷ 10 ∷ [])
+  unfolding writeBlifCall
+  write-blif-ends text out =
+      let new = blifText s in
+      let Q : Answer → Type 0 = EndsBy new text (length new ∷ []) out (3 ∷ 9 ∷ 10 ∷ []) in
+      let short : Q (Refused BufferTooShort) = inr (9, refl, refl) in
+      let rooms = roomTest 1 out ∷ roomTest (length new) text ∷ [] in
+      session-by Q ws out (writeBlifWork text out s) short (inr (10, refl, refl))
+      (λ v z. copies-by (Before Q (first rooms))
+      (room-by (Before Q (first (roomTest (length new) text ∷ []))) 1 out short (λ o. room-by (Before Q Done) (length new) text short (λ t. inl (t, o, refl))))
+      (inr (3, refl, refl)) s)
+
   -- verdict and exchange have their tests in one
   verdict-ends : (gs ts out : List ℕ) → let l = verdictCall ws gs ts out in
       Gives l [] [] [] out ⊎ (Refuses l (9 ∷ 10 ∷ 11 ∷ 12 ∷ 15 ∷ 16 ∷ []) [] out ⊎ ((x : ℕ) × (i : ℕ) × Names l 14 (x ∷ i ∷ []) [] out))
@@ -163,7 +168,7 @@ module _ (ws : List ℕ) where
         ),
       ))
 
--- ## A file: 1 to 8, then 9
+-- ## A file or a BLIF text: its refusals, then 9
 
 more-numbers : (x y : ℕ) (ys : List ℕ) → member x ys ≡ true → member x (ys ++ y ∷ []) ≡ true
 more-numbers x y [] e = clash e refl
@@ -173,32 +178,36 @@ more-numbers x y (z ∷ ys) e = go (eqb z x) (more-numbers x y ys) e
     go true f e = refl
     go false f e = f e
 
-load-ends : (bytes session : List ℕ)
-    → Ends (loadCall bytes session) (packedOf (loadOf bytes .session)) session [] [] (1 ∷ 2 ∷ 3 ∷ 4 ∷ 5 ∷ 6 ∷ 7 ∷ 8 ∷ 9 ∷ [])
-unfolding loadCall
-load-ends bytes session =
-    let Q : Answer → Type 0 = EndsBy (packedOf (loadOf bytes .session)) session [] [] (1 ∷ 2 ∷ 3 ∷ 4 ∷ 5 ∷ 6 ∷ 7 ∷ 8 ∷ 9 ∷ []) in
+last-number : (y : ℕ) (ys : List ℕ) → member y (ys ++ y ∷ []) ≡ true
+last-number y [] = rw (eq-eqb y y refl)
+last-number y (z ∷ ys) = or-r (eqb z y) (member y (ys ++ y ∷ [])) (last-number y ys)
+
+read-ends : {l : Loaded} {ns : List ℕ} → Reader l ns → (session : List ℕ) → Ends (readCall l session) (packedOf (l .session)) session [] [] (ns ++ 9 ∷ [])
+read-ends {l} {ns} reads session =
+    let Q : Answer → Type 0 = EndsBy (packedOf (l .session)) session [] [] (ns ++ 9 ∷ []) in
     let room = roomTest sessionWords session in
-    let by : (a : Answer) → loadOf bytes .answer ≡ a → Q (first (a ∷ room ∷ [])) → Q (loadAnswer bytes session) = λ a e q. rw e q in
+    let by : (a : Answer) → l .answer ≡ a → Q (first (a ∷ room ∷ [])) → Q (readAnswer l session) = λ a e q. rw e q in
     ⊎-elim
-    (λ d. let e = ap (λ (l : Loaded). l .answer) d in
-    by Done e (room-by (Before Q Done) sessionWords session (inr (9, refl, refl)) (λ l. inl (loaded-room bytes session e l, omega arith, refl))))
-    (λ f. by (Refused (f .0)) (ap (λ (l : Loaded). l .answer) (f .2))
-    (inr (numberOf (f .0), more-numbers (numberOf (f .0)) 9 file (f .1), rw (nameless (f .0) (f .1)))))
-    (demand1 .load bytes)
+    (λ d. let e = ap (λ (x : Loaded). x .answer) d in
+    by Done e (room-by (Before Q Done) sessionWords session (inr (9, last-number 9 ns, refl)) (λ h. inl (read-room l session (reads .sized e) h, omega arith, refl))))
+    (λ f. let e = ap (λ (x : Loaded). x .answer) (f .2) in
+    by (Refused (f .0)) e (inr (numberOf (f .0), more-numbers (numberOf (f .0)) 9 ns (f .1), rw (sym (ap (λ (a : Answer). valuesFor a []) e) ∙ reads .none))))
+    (reads .ends)
 
 -- ## All the calls
 
 pub demand1-calls : Demand1Calls
-unfolding allTablesCall patternSetsCall hiddenCall writeCall patternSetsOf writeOf
+unfolding loadCall readBlifCall allTablesCall patternSetsCall hiddenCall writeCall patternSetsOf writeOf
 demand1-calls = record {
-  load = load-ends;
+  load = λ bytes. read-ends (load-reader bytes);
+  readBlif = λ text. read-ends (blif-reader text);
   listing = listing-ends;
   tables = tables-end;
   allTables = λ ws out. let s = sessionIn ws in room-ends ws (tablesRoom * s .m) (allTableWords s (s .m)) out (tables-length s (s .m));
   patternSets = λ ws words. let s = sessionIn ws in fills-end ws 0 [] (setWords s (s .m)) words [] refl;
   hidden = λ ws out. let s = sessionIn ws in room-ends ws (s .m) (hiddenCounts s) out (hidden-length s);
   write = λ ws file out. let s = sessionIn ws in fills-end ws 1 (length (bytesOf s) ∷ []) (bytesOf s) file out refl;
+  writeBlif = write-blif-ends;
   verdict = verdict-ends;
   exchange = exchange-ends;
 }

@@ -29,29 +29,31 @@ use Rattle.network.specs.Refusals.{numberOf, said}
 use Rattle.network.specs.Tests.{member, first}
 use Rattle.network.specs.State.{stateTest}
 use Rattle.network.specs.Valid.{Shaped}
-use Rattle.network.specs.Load.{loadOf}
+use Rattle.network.specs.Load.{loadDone, loadOf}
 use Rattle.network.specs.Write.{bytesOf}
 use Rattle.network.specs.Calls.{gateTest, harmTest, lengthsTest, pairs, pairsTest, verdictOf, verdictOn, gateTables, filled, roomTest, setWords, patternSetsOf, writeOf}
 use Rattle.network.specs.Lists.{FirstFault}
 use Rattle.network.specs.Sessions.{NoHarm, FirstHarm}
-use Rattle.network.proofs.TestLaws.{alone, clear-i}
+use Rattle.network.proofs.TestLaws.{alone, clear-e, clear-i}
 use Rattle.network.proofs.Valid.{state-e}
-use Rattle.network.proofs.Reached.{loaded-sized}
 use Rattle.network.proofs.Harm.{harm-only, harm-none, harm-at}
 use Rattle.network.proofs.ByTest.{Before, pairs-by}
 use Rattle.network.proofs.Lists.{pairs-back, lengths-fine, signals-back, tables-back, verdict-is, faulted-of}
 use Rattle.render.specs.Listing.{listingOf, listingInto}
+use Rattle.blif.specs.Write.{outgoing, blifText, copiesTest}
+use Rattle.bliftrip.specs.Trip.{Survives}
 use Rattle.engine.specs.Demands.{allInPlace, Changes}
 use Rattle.engine.proofs.Demands.{demand2}
 use Rattle.roundtrip.proofs.RoundTrip.{round-trip}
 use Rattle.packed.specs.Packed.{packedOf, excludedStart, sessionWords, part, sessionIn, wordsTest}
 use Rattle.packed.proofs.Inverse.{packed-back}
-use Rattle.boundary.specs.Boundary.{Left, numberFor, left, tableWords, tablesRoom, allTableWords, writeWork, loadCall, listingCall, tablesCall, allTablesCall, patternSetsCall, hiddenCall, verdictCall, verdictCallOn, writeCall}
+use Rattle.boundary.specs.Boundary.{Left, numberFor, left, tableWords, tablesRoom, allTableWords, writeWork, readCall, loadCall, readBlifCall, listingCall, tablesCall, allTablesCall, patternSetsCall, hiddenCall, verdictCall, verdictCallOn, writeCall, writeBlifCall}
 use Rattle.boundary.specs.Promises.{Gives, Words, Asks, Demand2Calls}
 use Rattle.boundary.proofs.Names.{number-said, zero-done, NamesMost}
-use Rattle.boundary.proofs.Tested.{room-i, session-by, fillAnswer, fill-by, words-state, words-sized}
+use Rattle.boundary.proofs.Tested.{room-i, room-e, session-by, fillAnswer, fill-by, words-state, words-sized}
 use Rattle.boundary.proofs.Leaves.{refused}
-use Rattle.boundary.proofs.Demand1Calls.{tables-length, hiddenCounts, hidden-length, loaded-room, demand1-calls}
+use Rattle.boundary.proofs.Readers.{read-room, Reader, load-reader, blif-reader}
+use Rattle.boundary.proofs.Demand1Calls.{tables-length, hiddenCounts, hidden-length, demand1-calls}
 
 -- ## Where no test refuses
 
@@ -59,12 +61,11 @@ gives : {a : Answer} (given new buffer out : List ℕ) → a ≡ Done → length
     → Gives (left a given new buffer out) new buffer given out
 gives given new buffer out e b o = (b, o, rw e)
 
-load-gives : (file session : List ℕ) → loadOf file .answer ≡ Done → sessionWords ≤ length session
-    → Gives (loadCall file session) (packedOf (loadOf file .session)) session [] []
-unfolding loadCall
-load-gives file session e l =
-    gives [] (packedOf (loadOf file .session)) session [] (clear-i (loadOf file .answer ∷ roomTest sessionWords session ∷ []) (e, (room-i sessionWords session l, tt)))
-    (loaded-room file session e l) (omega arith)
+read-gives : {l : Loaded} {ns : List ℕ} → Reader l ns → (session : List ℕ) → l .answer ≡ Done → sessionWords ≤ length session
+    → Gives (readCall l session) (packedOf (l .session)) session [] []
+read-gives {l} reads session e h =
+    gives [] (packedOf (l .session)) session [] (clear-i (l .answer ∷ roomTest sessionWords session ∷ []) (e, (room-i sessionWords session h, tt)))
+    (read-room l session (reads .sized e) h) (omega arith)
 
 listing-gives : (file text out : List ℕ) → 1 ≤ length out → length (listingOf file) ≤ length text
     → Gives (listingCall file text out) (listingOf file) text (length (listingOf file) ∷ []) out
@@ -220,6 +221,15 @@ write-passed ws file out =
     let bad : Q (Refused InvalidState) = λ e. (let z : ⊥ = omega arith in absurd z) in
     session-by Q ws out (writeWork file s) short bad (λ v o. fill-by (Before Q Done) (bytesOf s) file s bad short (λ b e. (v, o, b)))
 
+-- a call that reads leaves words that hold what it read
+read-holds : {l : Loaded} {ns : List ℕ} → Reader l ns → (session : List ℕ) (t : Session) → l ≡ loadDone t → sessionWords ≤ length session
+    → (readCall l session .number ≡ 0) × (sessionIn (readCall l session .buffer) ≡ t)
+read-holds {l} reads session t e room =
+    let done = ap (λ (x : Loaded). x .answer) e in
+    let is = read-gives reads session done room .2 in
+    let same = ap (λ (x : Loaded). x .session) e in
+    (ap (λ (x : Left). x .number) is, ap (λ (x : Left). sessionIn (x .buffer)) is ∙ packed-back (l .session) (drop (length (packedOf (l .session))) session) (reads .sized done) ∙ same)
+
 module _ (ws file out session : List ℕ) (h : Words ws) (e : writeCall ws file out .number ≡ 0) (room : sessionWords ≤ length session) where
   abbrev again : Left
   again =
@@ -227,6 +237,7 @@ module _ (ws file out session : List ℕ) (h : Words ws) (e : writeCall ws file 
       loadCall (take (getD (w .out) 0 0) (w .buffer)) session
 
   round-trips : (again .number ≡ 0) × (loadedNet (sessionIn (again .buffer)) ≡ currentNet (sessionIn ws)) × (currentNet (sessionIn (again .buffer)) ≡ currentNet (sessionIn ws))
+  unfolding loadCall
   round-trips =
       let s = sessionIn ws in
       let bytes = bytesOf s in
@@ -235,13 +246,48 @@ module _ (ws file out session : List ℕ) (h : Words ws) (e : writeCall ws file 
       let t = back .session in
       let read : take (getD (writeCall ws file out .out) 0 0) (writeCall ws file out .buffer) ≡ bytes =
       ap (λ (w : Left). take (getD (w .out) 0 0) (w .buffer)) (write-gives ws file out (p .0) (p .1) (p .2) .2) ∙ take-append-seam bytes (drop (length bytes) file) in
-      let loads : loadCall bytes session ≡ record { number = 0; buffer = overwritten (packedOf t) session; out = [] } =
-      load-gives bytes session (ap (λ (l : Loaded). l .answer) (back .reads)) room .2
-      ∙ ap (λ (l : Loaded). record { number = 0; buffer = overwritten (packedOf (l .session)) session; out = [] }) (back .reads) in
-      let is : again ≡ record { number = 0; buffer = overwritten (packedOf t) session; out = [] } = ap (λ (b : List ℕ). loadCall b session) read ∙ loads in
-      let held : sessionIn (again .buffer) ≡ t =
-      ap (λ (l : Left). sessionIn (l .buffer)) is ∙ packed-back t (drop (length (packedOf t)) session) (loaded-sized bytes t (back .reads)) in
-      (ap (λ (l : Left). l .number) is, ap loadedNet held ∙ back .loaded, ap currentNet held ∙ back .current)
+      let h = read-holds (load-reader bytes) session t (back .reads) room in
+      let is : again ≡ readCall (loadOf bytes) session = ap (λ (b : List ℕ). loadCall b session) read in
+      let held : sessionIn (again .buffer) ≡ t = ap (λ (l : Left). sessionIn (l .buffer)) is ∙ h .1 in
+      (ap (λ (l : Left). l .number) is ∙ h .0, ap loadedNet held ∙ back .loaded, ap currentNet held ∙ back .current)
+
+-- as BLIF text
+module _ (ws text out : List ℕ) where
+  abbrev blifTests : List Answer
+  blifTests = wordsTest ws ∷ roomTest 0 out ∷ copiesTest (sessionIn ws) ∷ roomTest 1 out ∷ roomTest (length (blifText (sessionIn ws))) text ∷ []
+
+  abbrev Writes : Type 0
+  Writes = (wordsTest ws ≡ Done) × (copiesTest (sessionIn ws) ≡ Done) × (1 ≤ length out) × (length (blifText (sessionIn ws)) ≤ length text)
+
+  write-blif-gives : Writes → Gives (writeBlifCall ws text out) (blifText (sessionIn ws)) text (length (blifText (sessionIn ws)) ∷ []) out
+  unfolding writeBlifCall
+  write-blif-gives p =
+      let new = blifText (sessionIn ws) in
+      gives (length new ∷ []) new text out (clear-i blifTests (p .0, (room-i 0 out (omega arith), (p .1, (room-i 1 out (p .2), (room-i (length new) text (p .3), tt)))))) (p .3) (p .2)
+
+  write-blif-passed : writeBlifCall ws text out .number ≡ 0 → Writes
+  unfolding writeBlifCall
+  write-blif-passed e =
+      let c = clear-e blifTests (zero-done (first blifTests) e) in
+      (c .0, c .1 .1 .0, room-e 1 out (c .1 .1 .1 .0), room-e (length (blifText (sessionIn ws))) text (c .1 .1 .1 .1 .0))
+
+  blif-trips : (session : List ℕ) → writeBlifCall ws text out .number ≡ 0 → sessionWords ≤ length session
+      → let w = writeBlifCall ws text out in
+      let l = readBlifCall (take (getD (w .out) 0 0) (w .buffer)) session in
+      let sent = outgoing (currentNet (sessionIn ws)) in
+      (l .number ≡ 0) × (loadedNet (sessionIn (l .buffer)) ≡ sent) × (currentNet (sessionIn (l .buffer)) ≡ sent) × Survives (currentNet (sessionIn ws)) sent
+      × (blifText (sessionIn (l .buffer)) ≡ blifText (sessionIn ws))
+  unfolding readBlifCall
+  blif-trips session e room =
+      let s = sessionIn ws in
+      let bytes = blifText s in
+      let p = write-blif-passed e in
+      let trip = demand2 .blifTrip s (words-state ws (p .0)) (p .1) in
+      let back = trip .0 in
+      let read : take (getD (writeBlifCall ws text out .out) 0 0) (writeBlifCall ws text out .buffer) ≡ bytes =
+      ap (λ (w : Left). take (getD (w .out) 0 0) (w .buffer)) (write-blif-gives p .2) ∙ take-append-seam bytes (drop (length bytes) text) in
+      let h = read-holds (blif-reader bytes) session (back .session) (back .reads) room in
+      rw read (h .0, ap loadedNet (h .1) ∙ back .loaded, ap currentNet (h .1) ∙ back .current, trip .1, ap blifText (h .1) ∙ back .again)
 
 -- ## The CDC among the words of a gate's tables
 
@@ -271,9 +317,10 @@ module _ (ws out : List ℕ) (v : wordsTest ws ≡ Done) (r : sessionIn ws .m �
 -- ## All the calls
 
 pub demand2-calls : Demand2Calls
-unfolding allTablesCall patternSetsCall patternSetsOf
+unfolding loadCall readBlifCall allTablesCall patternSetsCall patternSetsOf
 demand2-calls = record {
-  load = load-gives;
+  load = λ file. read-gives (load-reader file);
+  readBlif = λ text. read-gives (blif-reader text);
   listing = listing-gives;
   tables = λ ws gate out v. tables-given ws v gate out;
   allTables = λ ws out v. let s = sessionIn ws in room-given ws v (tablesRoom * s .m) (allTableWords s (s .m)) out (tables-length s (s .m));
@@ -283,6 +330,7 @@ demand2-calls = record {
       let fit = demand2 .countsFit s (words-state ws v) in
       (λ g l. rw (count-shown ws out v r g l) (fit .0 (s .n + g)), fit .1);
   write = write-gives;
+  writeBlif = λ ws text out v c o t. write-blif-gives ws text out (v, c, o, t);
   cdcExact = λ ws gate out z. let C = currentNet (sessionIn ws) in
       subst (λ (o : List ℕ). NeverGiven C gate (getD o 1 0)) (sym (tables-shown ws gate out z)) (demand2 .cdcExact C gate);
   cdcFull = λ ws gate t out z. let C = currentNet (sessionIn ws) in
@@ -294,4 +342,5 @@ demand2-calls = record {
   listed = listed-is;
   unequal = unequal-is;
   roundTrip = round-trips;
+  blifTrip = blif-trips;
 }

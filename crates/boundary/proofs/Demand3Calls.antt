@@ -1,5 +1,5 @@
 -- Demand 3 of the calls, of any list of exchange calls: over words that hold a session which is fresh, sized and narrow, whatever it
--- was read from; and so of every file that loads. Assumes nothing.
+-- was read from; and so of every file that loads and every BLIF text that reads. Assumes nothing.
 use mathlib.Core.Path.{_≡_, refl, sym, ap, ap₂, _∙_}
 use mathlib.Core.Logic.{_≢_}
 use mathlib.Core.Bool.{cond}
@@ -21,18 +21,21 @@ use Rattle.network.specs.Valid.{Sized, Narrow}
 use Rattle.network.specs.Tests.{orElse, first}
 use Rattle.network.specs.State.{stateTest}
 use Rattle.network.specs.Load.{loadDone, loadOf}
+use Rattle.network.specs.Write.{bytesOf}
 use Rattle.network.specs.Calls.{stored, exchangeAnswer, exchanged, exchangeOf, roomTest, filled}
 use Rattle.network.specs.Sessions.{after, answers, answerBy}
 use Rattle.network.proofs.TestLaws.{clear-e}
 use Rattle.network.proofs.Fresh.{Fresh}
 use Rattle.network.proofs.Valid.{state-i}
 use Rattle.network.proofs.Exchanges.{answers-are, after-valid, after-sized, after-narrow}
-use Rattle.network.proofs.Reached.{loaded-fresh, loaded-sized, loaded-narrow}
+use Rattle.network.proofs.Reached.{done-whole, loaded-fresh, loaded-sized, loaded-narrow}
 use Rattle.network.proofs.Demand3.{demand3}
+use Rattle.blif.specs.Read.{readBlifOf}
+use Rattle.bliftrip.proofs.SameWords.{blif-words}
 use Rattle.packed.specs.Packed.{packedOf, sessionWords}
 use Rattle.packed.proofs.Inverse.{packed-length, packed-back, unpack-answer, repacked, unpacks}
-use Rattle.boundary.specs.Boundary.{numberFor, valuesFor, Left, left, loadAnswer, loadCall, exchangeCall}
-use Rattle.boundary.specs.Promises.{Asked, wordsAfter, heard, askedAnswer, askedLeft, roomy, Holds, Demand3Calls, Demand3OfCalls}
+use Rattle.boundary.specs.Boundary.{numberFor, valuesFor, Left, left, readAnswer, readCall, loadCall, readBlifCall, exchangeCall}
+use Rattle.boundary.specs.Promises.{Asked, wordsAfter, heard, askedAnswer, askedLeft, roomy, Holds, Demand3Calls, Demand3From, Demand3OfCalls}
 use Rattle.boundary.proofs.Names.{number-said, values-said, zero-done}
 
 -- ## Words laid over others
@@ -244,26 +247,39 @@ module _ {ws : List ℕ} {s : Session} (at : Ready ws s) where
   pub call-after : (list : List Asked) (a : Asked) → exchangeCall (wordsAfter ws list) (a .exchange) (a .out) .number ≡ numberFor (askedAnswer (loadedNet s) a)
   call-after list a = ap (λ (l : Left). l .number) (call-left (holds list) (steady-after (roomy list) steady) a)
 
--- ## Of every file that loads
+-- ## Of every file that loads and every BLIF text that reads
 
--- a load call that gives 0 read a network, and packed its session over the words that it was lent
-load-done : (file session : List ℕ) → loadCall file session .number ≡ 0
-    → (loadOf file ≡ loadDone (loadOf file .session)) × (loadCall file session .buffer ≡ overwritten (packedOf (loadOf file .session)) session)
+-- a call that gives 0 read a network, and packed its session over the words that it was lent
+read-done : (l : Loaded) (session : List ℕ) → readCall l session .number ≡ 0
+    → (l ≡ loadDone (l .session)) × (readCall l session .buffer ≡ overwritten (packedOf (l .session)) session)
+read-done l session z =
+    let a = zero-done (readAnswer l session) z in
+    let c = clear-e (l .answer ∷ roomTest sessionWords session ∷ []) a in
+    (done-whole l (c .0), ap (λ (b : Answer). filled b (packedOf (l .session)) session .buffer) a)
+
+-- where what it read is as a load gives it
+read-ready : (l : Loaded) (session : List ℕ) → readCall l session .number ≡ 0 → ((s : Session) → l ≡ loadDone s → (bytes : List ℕ) × (loadOf bytes ≡ loadDone s))
+    → Ready (readCall l session .buffer) (l .session)
+read-ready l session z loads =
+    let s = l .session in
+    let r = read-done l session z in
+    let f = loads s (r .0) in
+    rw (r .1) (ready s session (loaded-fresh (f .0) s (f .1)) (loaded-sized (f .0) s (f .1)) (loaded-narrow (f .0) s (f .1)))
+
+pub loaded-ready : (file session : List ℕ) → loadCall file session .number ≡ 0 → Ready (loadCall file session .buffer) (loadOf file .session)
 unfolding loadCall
-load-done file session z =
-    let s = loadOf file .session in
-    let a = zero-done (loadAnswer file session) z in
-    let c = clear-e (loadOf file .answer ∷ roomTest sessionWords session ∷ []) a in
-    (ap (λ (b : Answer). record { answer = b; session = s }) (c .0), ap (λ (b : Answer). filled b (packedOf s) session .buffer) a)
+loaded-ready file session z = read-ready (loadOf file) session z (λ s e. (file, e))
 
-module _ (file session : List ℕ) (z : loadCall file session .number ≡ 0) where
-  pub loaded-ready : Ready (loadCall file session .buffer) (loadOf file .session)
-  loaded-ready =
-      let s = loadOf file .session in
-      let l = load-done file session z in
-      rw (l .1) (ready s session (loaded-fresh file s (l .0)) (loaded-sized file s (l .0)) (loaded-narrow file s (l .0)))
+pub blif-ready : (text session : List ℕ) → readBlifCall text session .number ≡ 0 → Ready (readBlifCall text session .buffer) (readBlifOf text .session)
+unfolding readBlifCall
+blif-ready text session z = read-ready (readBlifOf text) session z (λ s e. (bytesOf s, blif-words text s e))
+
+from-ready : (l : Loaded) (c : Left) (list : List Asked) → l ≡ loadDone (l .session) → Ready (c .buffer) (l .session) → Demand3From l c list
+from-ready l c list e at = (e, at .holds, demand3 (l .session) (at .fresh) (roomy list), demand3-calls at list)
 
 pub demand3-of-calls : Demand3OfCalls
-demand3-of-calls file session list z =
-    let at = loaded-ready file session z in
-    (load-done file session z .0, at .holds, demand3 (loadOf file .session) (at .fresh) (roomy list), demand3-calls at list)
+unfolding loadCall readBlifCall
+demand3-of-calls = record {
+  load = λ file session list z. from-ready (loadOf file) (readCall (loadOf file) session) list (read-done (loadOf file) session z .0) (loaded-ready file session z);
+  readBlif = λ text session list z. from-ready (readBlifOf text) (readCall (readBlifOf text) session) list (read-done (readBlifOf text) session z .0) (blif-ready text session z);
+}

@@ -3,14 +3,11 @@ use mathlib.Core.Path.{_≡_, refl, sym, ap, subst, _∙_}
 use mathlib.Core.List.{List, [], _∷_}
 use Prim.Native.Nat.{ℕ, _≤_}
 use native.Mathlib.Omega.{arith}
-use lib.Dec.{ltb}
 use lib.ListN.{length}
-use borrow.Author.Tests.{ltb-false}
 use Rattle.bits.specs.Lists.{overwritten}
 use Rattle.network.specs.declared.Session.{Session}
 use Rattle.network.specs.declared.Loaded.{Loaded}
 use Rattle.network.specs.declared.Refusal.{Refusal}
-use Rattle.network.specs.declared.Refusal.the-variants.{BufferTooShort}
 use Rattle.network.specs.declared.Answer.{Answer}
 use Rattle.network.specs.declared.Answer.the-variants.{Done, Refused}
 use Rattle.network.specs.Refusals.{numberOf, valuesOf}
@@ -18,10 +15,10 @@ use Rattle.network.specs.Tests.{first}
 use Rattle.network.specs.State.{stateTest}
 use Rattle.network.specs.Load.{loadDone, onward}
 use Rattle.network.specs.Calls.{roomTest}
-use Rattle.network.proofs.TestLaws.{passed, clear-e, alone, stopped, went-on}
+use Rattle.network.proofs.TestLaws.{clear-e, alone, stopped, went-on}
 use Rattle.packed.specs.Packed.{sessionWords, sessionIn, wordsTest, unpackOf}
 use Rattle.boundary.specs.Boundary.{Left, left, Work, onSession}
-use Rattle.boundary.proofs.Tested.{words-long, words-state}
+use Rattle.boundary.proofs.Tested.{room-e, words-long, words-state}
 use Rattle.boundary.proofs.Names.{NamesMost, names-first, names-room, names-words}
 
 -- ## What a call leaves
@@ -54,7 +51,7 @@ worked w buffer out = left (first (w .tests)) (w .given) (w .new) buffer out
 pub room-passed : {a : Answer} (x : Answer) (needed : ℕ) (buffer : List ℕ) → a ≡ first (x ∷ roomTest needed buffer ∷ []) → a ≡ Done → (x ≡ Done) × (needed ≤ length buffer)
 room-passed x needed buffer f h =
     let c = clear-e (x ∷ roomTest needed buffer ∷ []) (sym f ∙ h) in
-    (c .0, ltb-false (length buffer) needed (passed (ltb (length buffer) needed) BufferTooShort (c .1 .0)))
+    (c .0, room-e needed buffer (c .1 .0))
 
 module _ (ws : List ℕ) {l : Loaded} (e : l ≡ unpackOf ws) where
   -- tests of what the words hold are tests of what was unpacked

@@ -1,6 +1,7 @@
 pub mod Tested
 pub mod Names
 pub mod Leaves
+pub mod Readers
 pub mod Fills
 pub mod Rows
 pub mod Cases

@@ -1,7 +1,7 @@
 -- What a call leaves by what its answer says; and how many values an answer names: 13 one, 14 two, and no other refusal any.
 -- Assumes nothing.
 use mathlib.Core.Path.{_≡_, refl}
-use mathlib.Core.Bool.{true}
+use mathlib.Core.Bool.{true, false}
 use mathlib.Core.List.{List, []}
 use Prim.Native.Nat.{ℕ, _≤_}
 use native.Mathlib.Omega.{arith}
@@ -19,7 +19,6 @@ use Rattle.network.specs.Calls.{gateTest, tableTest, roomTest}
 use Rattle.network.proofs.Said.{told-by}
 use Rattle.network.proofs.ByTest.{room-by, state-by, gate-by, table-by, Each, first-by}
 use Rattle.engine.specs.Demands.{Numbered}
-use Rattle.engine.proofs.Outcomes.{file}
 use Rattle.packed.specs.Packed.{wordsTest}
 use Rattle.boundary.specs.Boundary.{numberFor, valuesFor}
 use Rattle.boundary.proofs.Tested.{words-by}
@@ -65,6 +64,6 @@ module _ (k : ℕ) where
   pub names-words : (ws : List ℕ) → NamesMost k (wordsTest ws)
   names-words ws = words-by (NamesMost k) ws (omega arith) (omega arith) (λ v. omega arith)
 
--- what refuses a file names nothing
-pub nameless : (r : Refusal) → Numbered file r → valuesOf r ≡ []
-nameless = told-by (λ x. member (x .0) file ≡ true → x .1 ≡ []) (λ n a h. refl) (λ t h. clash h refl) (λ x i h. clash h refl)
+-- a refusal other than 13 and 14 names nothing
+pub nameless : (ns : List ℕ) → member 13 ns ≡ false → member 14 ns ≡ false → (r : Refusal) → Numbered ns r → valuesOf r ≡ []
+nameless ns no13 no14 = told-by (λ x. member (x .0) ns ≡ true → x .1 ≡ []) (λ n a h. refl) (λ t h. clash h no13) (λ x i h. clash h no14)

@@ -26,6 +26,9 @@ use Rattle.boundary.specs.Boundary.{Work}
 pub room-i : (needed : ℕ) (buffer : List ℕ) → needed ≤ length buffer → roomTest needed buffer ≡ Done
 room-i needed buffer h = rw (le-ltb (length buffer) needed h)
 
+pub room-e : (needed : ℕ) (buffer : List ℕ) → roomTest needed buffer ≡ Done → needed ≤ length buffer
+room-e needed buffer e = ltb-false (length buffer) needed (passed (ltb (length buffer) needed) BufferTooShort e)
+
 -- ## The tests of a call
 
 -- the words of a session: 9, 10
@@ -66,7 +69,7 @@ module _ (ws : List ℕ) (e : wordsTest ws ≡ Done) where
   words-clear = clear-e (roomTest sessionWords ws ∷ bytesTest ws ∷ stateTest (sessionIn ws) ∷ []) e
 
   pub words-long : sessionWords ≤ length ws
-  words-long = ltb-false (length ws) sessionWords (passed (ltb (length ws) sessionWords) BufferTooShort (words-clear .0))
+  words-long = room-e sessionWords ws (words-clear .0)
 
   pub words-state : stateTest (sessionIn ws) ≡ Done
   words-state = words-clear .1 .1 .0

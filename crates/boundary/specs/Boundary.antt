@@ -7,6 +7,7 @@ use Rattle.bits.specs.Range.{places}
 use Rattle.bits.specs.Lists.{overwritten}
 use Rattle.network.specs.declared.Session.{Session}
 use Rattle.network.specs.declared.Tables.{Tables}
+use Rattle.network.specs.declared.Loaded.{Loaded}
 use Rattle.network.specs.declared.Answer.{Answer}
 use Rattle.network.specs.declared.Answer.the-variants.{Done, Refused}
 use Rattle.network.specs.Net.{Replacement, signals, newTables}
@@ -17,6 +18,8 @@ use Rattle.network.specs.Tests.{first}
 use Rattle.network.specs.Load.{loadOf}
 use Rattle.network.specs.Write.{bytesOf}
 use Rattle.network.specs.Calls.{gateTest, exchangeAnswer, stored, verdictOf, gateTables, roomTest, filled, setWords, patternSetsOf, writeOf}
+use Rattle.blif.specs.Read.{readBlifOf}
+use Rattle.blif.specs.Write.{blifText, copiesTest}
 use Rattle.render.specs.Listing.{listingOf, listingInto}
 use Rattle.packed.specs.Packed.{packedOf, sessionWords, sessionIn, wordsTest}
 
@@ -46,14 +49,20 @@ left a given new buffer out = record {
   out = overwritten (valuesFor a given) out;
 }
 
--- ## A file
+-- ## A file or a BLIF text
 
--- the file's refusals come before the session's room
-abbrev pub loadAnswer : (file session : List ℕ) → Answer
-loadAnswer file session = first (loadOf file .answer ∷ roomTest sessionWords session ∷ [])
+-- what was read: its refusals come before the session's room
+abbrev pub readAnswer : Loaded → (session : List ℕ) → Answer
+readAnswer l session = first (l .answer ∷ roomTest sessionWords session ∷ [])
+
+abbrev pub readCall : Loaded → (session : List ℕ) → Left
+readCall l session = left (readAnswer l session) [] (packedOf (l .session)) session []
 
 unfoldable pub loadCall : (file session : List ℕ) → Left
-loadCall file session = left (loadAnswer file session) [] (packedOf (loadOf file .session)) session []
+loadCall file session = readCall (loadOf file) session
+
+unfoldable pub readBlifCall : (text session : List ℕ) → Left
+readBlifCall text session = readCall (readBlifOf text) session
 
 -- a refused file is listed too, as its line says; `out` gets the length
 unfoldable pub listingCall : (file text out : List ℕ) → Left
@@ -138,3 +147,15 @@ writeWork file s = record { room = 1; tests = writeOf s file .answer ∷ []; giv
 
 unfoldable pub writeCall : (session file out : List ℕ) → Left
 writeCall session file out = onSession (writeWork file) session file out
+
+-- 3 comes before the room of `out`, which gets the length
+abbrev pub writeBlifWork : (text out : List ℕ) → Session → Work
+writeBlifWork text out s = record {
+  room = 0;
+  tests = copiesTest s ∷ roomTest 1 out ∷ roomTest (length (blifText s)) text ∷ [];
+  given = length (blifText s) ∷ [];
+  new = blifText s;
+}
+
+unfoldable pub writeBlifCall : (session text out : List ℕ) → Left
+writeBlifCall session text out = onSession (writeBlifWork text out) session text out

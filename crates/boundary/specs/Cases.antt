@@ -4,11 +4,13 @@ use mathlib.Core.List.{List, [], _∷_, _++_, map}
 use Prim.Native.Nat.{ℕ, _+_, _-_}
 use lib.ListN.{set, take, replicate}
 use Rattle.text.specs.Ascii.{ascii}
+use Rattle.network.specs.declared.Session.{Session}
+use Rattle.network.specs.Bounds.{mostGates, mostOutputs, faninPlaces, excludedWords}
 use Rattle.network.specs.Net.{Replacement, signals}
 use Rattle.network.specs.Examples.{twinBytes, twinSession, twinNet, zeroNeverSession}
 use Rattle.render.specs.Listing.{mostListingBytes}
 use Rattle.packed.specs.Packed.{packedOf, arityStart, faninsStart, outputsStart, excludedStart, loadedStart, currentStart, openStart, sessionWords, byteWords}
-use Rattle.boundary.specs.Boundary.{Left, loadCall, listingCall, tablesCall, allTablesCall, patternSetsCall, hiddenCall, verdictCall, exchangeCall, writeCall}
+use Rattle.boundary.specs.Boundary.{Left, loadCall, readBlifCall, listingCall, tablesCall, allTablesCall, patternSetsCall, hiddenCall, verdictCall, exchangeCall, writeCall, writeBlifCall}
 use Rattle.boundary.specs.Promises.{Asked, wordsAfter, heard, askedLeft, roomy}
 
 -- the twin network's session, with one word behind it
@@ -83,7 +85,48 @@ cases =
     ∷ (laid (loadCall twinBytes (7 ∷ [])), 9 ∷ 7 ∷ [])
     ∷ []
 
--- exchange calls one after the other: each on the words that the one before left, and all of them by the loaded network alone
+-- ## BLIF
+
+-- the twin network as text
+abbrev pub twinText : List ℕ
+twinText = ascii ".model s\n.inputs s0\n.outputs s3\n.names s0 s1\n1 1\n.names s0 s2\n1 1\n.names s1 s2 s3\n10 1\n01 1\n11 1\n.end\n"
+
+-- one input, m copies of it, and two outputs of the first copy
+abbrev pub row : ℕ → Session
+row m = record {
+  n = 1;
+  m = m;
+  p = 2;
+  excluded = replicate excludedWords 0;
+  arity = replicate mostGates 1;
+  fanins = replicate faninPlaces 0;
+  loaded = replicate mostGates 2;
+  current = replicate mostGates 2;
+  open_tables = replicate mostGates 0;
+  outputs = replicate mostOutputs 1;
+}
+
+abbrev pub blif : List (List ℕ × List ℕ)
+blif =
+    -- a text read gives the words that its file gives
+    (laid (readBlifCall twinText (replicate (sessionWords + 1) 9)), 0 ∷ words)
+    -- its refusals come before the session's room
+    ∷ (laid (readBlifCall (take 96 twinText) (7 ∷ [])), 17 ∷ 7 ∷ [])
+    ∷ (laid (readBlifCall twinText (7 ∷ [])), 9 ∷ 7 ∷ [])
+    -- the text of a session, and its length
+    ∷ (given (writeBlifCall words (replicate 103 7) (7 ∷ 7 ∷ [])), 0 ∷ 102 ∷ 7 ∷ [])
+    ∷ (laid (writeBlifCall words (replicate 103 7) (7 ∷ 7 ∷ [])), 0 ∷ twinText ++ 7 ∷ [])
+    -- a copy that makes forty-one gates is refused before `out` and the text are asked for
+    ∷ (laid (writeBlifCall (packedOf (row 39)) (7 ∷ []) []), 9 ∷ 7 ∷ [])
+    ∷ (laid (writeBlifCall (packedOf (row 40)) (7 ∷ []) []), 3 ∷ 7 ∷ [])
+    -- 10 before it, and 9 for a session of too few words
+    ∷ (given (writeBlifCall (replicate sessionWords 0) [] (7 ∷ [])), 10 ∷ 7 ∷ [])
+    ∷ (given (writeBlifCall (take (sessionWords - 1) words) [] (7 ∷ [])), 9 ∷ 7 ∷ [])
+    ∷ []
+
+-- ## Exchange calls
+
+-- one after the other: each on the words that the one before left, and all of them by the loaded network alone
 abbrev pub inTurn : List (List ℕ × List ℕ)
 inTurn =
     (allGiven (heard words (asked 1 (7 ∷ []) ∷ [])), 0 ∷ 7 ∷ [])

@@ -1,3 +1,4 @@
 pub mod Boundary
 pub mod Promises
+pub mod AfterCalls
 pub mod Cases

@@ -2,7 +2,7 @@
 -- definition in Boundary.antt says: `tusqirma_load` what `loadCall` says, and so on. Assumes nothing.
 use mathlib.Core.Path.{_≡_}
 use mathlib.Core.Logic.{_⊎_, _↔_, _≢_}
-use mathlib.Core.Bool.{Bool, true, false, cond}
+use mathlib.Core.Bool.{true, false, cond}
 use mathlib.Core.List.{List, [], _∷_, _++_, map}
 use Prim.Native.Nat.{ℕ, _+_, _*_, _^_, _<_, _≤_}
 use lib.Dec.{ltb}
@@ -11,24 +11,28 @@ use Rattle.bits.specs.Range.{places}
 use Rattle.bits.specs.Lists.{overwritten}
 use Rattle.bits.specs.Bit.{bit}
 use Rattle.network.specs.declared.Session.{Session}
+use Rattle.network.specs.declared.Loaded.{Loaded}
 use Rattle.network.specs.declared.Refusal.{Refusal}
 use Rattle.network.specs.declared.Answer.{Answer}
 use Rattle.network.specs.declared.Answer.the-variants.{Done}
-use Rattle.network.specs.Net.{Net, isGate, entries, patterns, excludedFor, output, Replacement}
-use Rattle.network.specs.DontCares.{sdc, cdc, NeverGiven, full}
-use Rattle.network.specs.Compatible.{compatibleCount, compatibleTotal, openTable}
+use Rattle.network.specs.Net.{Net, isGate, patterns, excludedFor, output, Replacement}
+use Rattle.network.specs.DontCares.{NeverGiven, full}
+use Rattle.network.specs.Compatible.{compatibleCount, compatibleTotal}
 use Rattle.network.specs.Flat.{loadedNet, currentNet}
 use Rattle.network.specs.Refusals.{numberOf, said}
 use Rattle.network.specs.Tests.{member, first}
 use Rattle.network.specs.Load.{loadOf, loadDone}
 use Rattle.network.specs.Write.{bytesOf}
-use Rattle.network.specs.Calls.{fits, alters, pairs, gateTables, stored, roomTest, setWords}
+use Rattle.network.specs.Calls.{fits, pairs, gateTables, stored, roomTest, setWords}
 use Rattle.network.specs.Lists.{Sound, FirstFault}
-use Rattle.network.specs.Sessions.{after, answerBy, NoHarm, FirstHarm, picked, Demand3}
+use Rattle.network.specs.Sessions.{after, answerBy, NoHarm, FirstHarm, Demand3}
+use Rattle.blif.specs.Read.{readBlifOf}
+use Rattle.blif.specs.Write.{outgoing, blifText, copiesTest}
+use Rattle.bliftrip.specs.Trip.{Survives}
 use Rattle.engine.specs.Demands.{allInPlace, Changes}
 use Rattle.render.specs.Listing.{listingOf}
 use Rattle.packed.specs.Packed.{packedOf, sessionWords, sessionIn, wordsTest}
-use Rattle.boundary.specs.Boundary.{Left, tableWords, allTableWords, loadCall, listingCall, tablesCall, allTablesCall, patternSetsCall, hiddenCall, verdictCall, verdictCallOn, exchangeCall, writeCall}
+use Rattle.boundary.specs.Boundary.{Left, tableWords, allTableWords, loadCall, readBlifCall, listingCall, tablesCall, allTablesCall, patternSetsCall, hiddenCall, verdictCall, verdictCallOn, exchangeCall, writeCall, writeBlifCall}
 
 -- ## Demand 1: for every file, buffer, table and session state, a call ends in one of the listed outcomes, or in a numbered refusal
 -- that changes neither state nor lent buffer
@@ -54,6 +58,9 @@ pub record Demand1Calls : Type 0 where
   -- a loaded network
   pub load : (file session : List ℕ)
       → Ends (loadCall file session) (packedOf (loadOf file .session)) session [] [] (1 ∷ 2 ∷ 3 ∷ 4 ∷ 5 ∷ 6 ∷ 7 ∷ 8 ∷ 9 ∷ [])
+  -- of a BLIF text too
+  pub readBlif : (text session : List ℕ)
+      → Ends (readBlifCall text session) (packedOf (readBlifOf text .session)) session [] [] (3 ∷ 17 ∷ 18 ∷ 9 ∷ [])
   -- a listing, with its length
   pub listing : (file text out : List ℕ) → Ends (listingCall file text out) (listingOf file) text (length (listingOf file) ∷ []) out (9 ∷ [])
   -- the tables of a gate, and of all gates
@@ -68,6 +75,9 @@ pub record Demand1Calls : Type 0 where
   -- a written file, with its length
   pub write : (ws file out : List ℕ)
       → Ends (writeCall ws file out) (bytesOf (sessionIn ws)) file (length (bytesOf (sessionIn ws)) ∷ []) out (9 ∷ 10 ∷ [])
+  -- a written BLIF text, with its length
+  pub writeBlif : (ws text out : List ℕ)
+      → Ends (writeBlifCall ws text out) (blifText (sessionIn ws)) text (length (blifText (sessionIn ws)) ∷ []) out (3 ∷ 9 ∷ 10 ∷ [])
   -- a verdict: harmless, or else 14 names pattern and output
   pub verdict : (ws gates tables out : List ℕ) → let l = verdictCall ws gates tables out in
       Gives l [] [] [] out ⊎ (Refuses l (9 ∷ 10 ∷ 11 ∷ 12 ∷ 15 ∷ 16 ∷ []) [] out ⊎ ((x : ℕ) × (i : ℕ) × Names l 14 (x ∷ i ∷ []) [] out))
@@ -89,6 +99,8 @@ pub record Demand2Calls : Type 0 where
   -- wherever it can, a call gives what 01 defines
   pub load : (file session : List ℕ) → loadOf file .answer ≡ Done → sessionWords ≤ length session
       → Gives (loadCall file session) (packedOf (loadOf file .session)) session [] []
+  pub readBlif : (text session : List ℕ) → readBlifOf text .answer ≡ Done → sessionWords ≤ length session
+      → Gives (readBlifCall text session) (packedOf (readBlifOf text .session)) session [] []
   pub listing : (file text out : List ℕ) → 1 ≤ length out → length (listingOf file) ≤ length text
       → Gives (listingCall file text out) (listingOf file) text (length (listingOf file) ∷ []) out
   pub tables : (ws : List ℕ) (gate : ℕ) (out : List ℕ) → wordsTest ws ≡ Done → isGate (loadedNet (sessionIn ws)) gate ≡ true → 4 ≤ length out
@@ -104,6 +116,8 @@ pub record Demand2Calls : Type 0 where
       → ((g : ℕ) → g < sessionIn ws .m → getD (hiddenCall ws out .out) g 0 ≤ 1024) × (compatibleTotal (loadedNet (sessionIn ws)) (sessionIn ws .m) ≤ 40960)
   pub write : (ws file out : List ℕ) → wordsTest ws ≡ Done → 1 ≤ length out → length (bytesOf (sessionIn ws)) ≤ length file
       → Gives (writeCall ws file out) (bytesOf (sessionIn ws)) file (length (bytesOf (sessionIn ws)) ∷ []) out
+  pub writeBlif : (ws text out : List ℕ) → wordsTest ws ≡ Done → copiesTest (sessionIn ws) ≡ Done → 1 ≤ length out → length (blifText (sessionIn ws)) ≤ length text
+      → Gives (writeBlifCall ws text out) (blifText (sessionIn ws)) text (length (blifText (sessionIn ws)) ∷ []) out
   -- request Two, of the words that a call gave: an entry is in the CDC exactly when no pattern outside E gives it
   pub cdcExact : (ws : List ℕ) (gate : ℕ) (out : List ℕ) → let l = tablesCall ws gate out in
       l .number ≡ 0 → NeverGiven (currentNet (sessionIn ws)) gate (getD (l .out) 1 0)
@@ -134,6 +148,13 @@ pub record Demand2Calls : Type 0 where
       → let w = writeCall ws file out in
       let l = loadCall (take (getD (w .out) 0 0) (w .buffer)) session in
       (l .number ≡ 0) × (loadedNet (sessionIn (l .buffer)) ≡ currentNet (sessionIn ws)) × (currentNet (sessionIn (l .buffer)) ≡ currentNet (sessionIn ws))
+  -- request Four: as BLIF text it is the network that went out, which has every gate and the value of every output; and the same text once more
+  pub blifTrip : (ws text out session : List ℕ) → writeBlifCall ws text out .number ≡ 0 → sessionWords ≤ length session
+      → let w = writeBlifCall ws text out in
+      let l = readBlifCall (take (getD (w .out) 0 0) (w .buffer)) session in
+      let sent = outgoing (currentNet (sessionIn ws)) in
+      (l .number ≡ 0) × (loadedNet (sessionIn (l .buffer)) ≡ sent) × (currentNet (sessionIn (l .buffer)) ≡ sent) × Survives (currentNet (sessionIn ws)) sent
+      × (blifText (sessionIn (l .buffer)) ≡ blifText (sessionIn ws))
 
 -- ## Demand 3: of every list of exchange calls, refused ones included, each on the words that the one before left
 
@@ -185,43 +206,11 @@ pub record Demand3Calls (ws : List ℕ) (s : Session) (list : List Asked) : Type
   pub swap : (before behind : List Asked) (a b : Asked) → list ≡ before ++ a ∷ b ∷ behind → a .exchange .signal ≢ b .exchange .signal
       → wordsAfter ws (before ++ b ∷ a ∷ behind) ≡ wordsAfter ws list
 
--- of every file that loads, into every buffer
-abbrev pub Demand3OfCalls : Type 0
-Demand3OfCalls = (file session : List ℕ) (list : List Asked) → loadCall file session .number ≡ 0
-    → let s = loadOf file .session in let ws = loadCall file session .buffer in
-    (loadOf file ≡ loadDone s) × Holds ws s × Demand3 s (roomy list) × Demand3Calls ws s list
+-- the words that a call left hold the session that it read, and the demand holds of them
+abbrev pub Demand3From : Loaded → Left → List Asked → Type 0
+Demand3From l c list = let s = l .session in (l ≡ loadDone s) × Holds (c .buffer) s × Demand3 s (roomy list) × Demand3Calls (c .buffer) s list
 
--- ## Calls on the words that a load and any list of exchange calls left
-
--- each of the pairs would be accepted by an exchange call on these words, and no gate stands twice among them and the named ones
-abbrev pub AcceptableCalls : List ℕ → (named : List ℕ) → List Replacement → Type 0
-AcceptableCalls ws named [] = Unit {0}
-AcceptableCalls ws named (r ∷ rs) =
-    ((out : List ℕ) × (exchangeCall ws r out .number ≡ 0)) × (member (r .signal) named ≡ false) × AcceptableCalls ws (r .signal ∷ named) rs
-
-pub record AfterCalls (ws : List ℕ) (s : Session) (list : List Asked) : Type 0 where
-  -- the tables are 01's: SDC, CDC and full table of the current network, the open table of the loaded one
-  pub tables : (g : ℕ) (out : List ℕ) → isGate (loadedNet s) g ≡ true → 4 ≤ length out
-      → let C = currentNet (after s (roomy list)) in
-      tablesCall (wordsAfter ws list) g out
-      ≡ record { number = 0; buffer = []; out = overwritten (sdc C g ∷ cdc C g ∷ full C g ∷ openTable (loadedNet s) g ∷ []) out }
-  -- rule 4: a lone replacement is found harmless exactly when it alters, of the loaded table, only entries of the full table
-  pub rule4 : (r : Replacement) (v : List ℕ) → isGate (loadedNet s) (r .signal) ≡ true → fits (loadedNet s) r ≡ true → 2 ≤ length v
-      → (verdictCallOn (wordsAfter ws list) (r ∷ []) v .number ≡ 0)
-      ↔ ((t : ℕ) → t < entries (loadedNet s) (r .signal) → alters (loadedNet s) r t ≡ true
-      → bit (full (currentNet (after s (roomy list))) (r .signal)) t ≡ true)
-  -- what exchange calls would accept, each for itself, one verdict call finds harmless together
-  pub together : (rs : List Replacement) (v : List ℕ) → 2 ≤ length v
-      → AcceptableCalls (wordsAfter ws list) [] rs → verdictCallOn (wordsAfter ws list) rs v .number ≡ 0
-  -- and so every part of it
-  pub part : (rs : List Replacement) (p : ℕ → Bool) (v : List ℕ) → 2 ≤ length v
-      → AcceptableCalls (wordsAfter ws list) [] rs → verdictCallOn (wordsAfter ws list) (picked p rs) v .number ≡ 0
-  -- the list of one: what an exchange call accepts, a verdict call finds harmless
-  pub lone : (r : Replacement) (out v : List ℕ) → 2 ≤ length v
-      → exchangeCall (wordsAfter ws list) r out .number ≡ 0 → verdictCallOn (wordsAfter ws list) (r ∷ []) v .number ≡ 0
-  -- nothing at all is harmless
-  pub empty : (v : List ℕ) → 2 ≤ length v → verdictCall (wordsAfter ws list) [] [] v .number ≡ 0
-
-abbrev pub AfterCallsOf : Type 0
-AfterCallsOf = (file session : List ℕ) (list : List Asked) → loadCall file session .number ≡ 0
-    → AfterCalls (loadCall file session .buffer) (loadOf file .session) list
+-- of every file that loads and every BLIF text that reads, into every buffer
+pub record Demand3OfCalls : Type 0 where
+  pub load : (file session : List ℕ) (list : List Asked) → loadCall file session .number ≡ 0 → Demand3From (loadOf file) (loadCall file session) list
+  pub readBlif : (text session : List ℕ) (list : List Asked) → readBlifCall text session .number ≡ 0 → Demand3From (readBlifOf text) (readBlifCall text session) list

@@ -10,8 +10,9 @@ ghost use Rattle.network.specs.declared.Refusal.the-variants.{BufferTooShort};
 ghost use Rattle.network.specs.Refusals.{numberOf, valuesOf};
 ghost use Rattle.network.specs.Tests.{refuseIf, first};
 ghost use Rattle.network.specs.State.{stateFault};
-ghost use Rattle.boundary.specs.Boundary.{allTableWords, tablesRoom};
+ghost use Rattle.boundary.specs.Boundary.{valuesFor, readCall, allTableWords, tablesRoom};
 use network::Answer;
+use network::Loaded;
 use network::Refusal;
 use network::Session;
 
@@ -58,6 +59,20 @@ pub fn room(a: Answer, lent: usize, needed: usize) -> Answer
         return Answer::Refused(Refusal::BufferTooShort);
     }
     Answer::Done
+}
+
+// What was read into the words of a session, where no refusal of it names a value.
+pub fn put_read(l: Loaded, session: &mut [u64]) -> u64
+    requires { ⌜ valuesFor (l .answer) [] ≡ [] ⌝ }
+    ensures { λ r. ⌜ record { number = r; buffer = now (session .exit); out = [] } ≡ readCall l (now (session .entry)) ⌝ }
+{
+    let tested = l.answer;
+    let a = room(tested, session.len(), packed::SESSION_WORDS);
+    if let Answer::Refused(r) = a {
+        return network::number_of(r);
+    }
+    packed::pack(l.session, session);
+    0
 }
 
 // The words of a gate's tables: SDC, CDC, full and open.

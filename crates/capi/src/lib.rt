@@ -4,7 +4,7 @@
 ghost use mathlib.Core.Path.{_≡_};
 ghost use mathlib.Core.List.{[]};
 ghost use Rattle.packed.specs.Packed.{sessionWords};
-ghost use Rattle.boundary.specs.Boundary.{loadCall, listingCall, tablesCall, allTablesCall, patternSetsCall, hiddenCall, verdictCall, exchangeCall, writeCall};
+ghost use Rattle.boundary.specs.Boundary.{loadCall, readBlifCall, listingCall, tablesCall, allTablesCall, patternSetsCall, hiddenCall, verdictCall, exchangeCall, writeCall, writeBlifCall};
 
 // The words that a session takes.
 #[no_mangle]
@@ -94,4 +94,20 @@ pub extern "C" fn tusqirma_all_tables(session: &[u64], out: &mut [u64]) -> u64
     ensures { λ r. ⌜ record { number = r; buffer = []; out = now (out .exit) } ≡ allTablesCall (now (session .entry)) (now (out .entry)) ⌝ }
 {
     gatecalls::all_tables(session, out)
+}
+
+// A session from a BLIF text.
+#[no_mangle]
+pub extern "C" fn tusqirma_read_blif(text: &[u8], session: &mut [u64]) -> u64
+    ensures { λ r. ⌜ record { number = r; buffer = now (session .exit); out = [] } ≡ readBlifCall (now (text .entry)) (now (session .entry)) ⌝ }
+{
+    blifcalls::read_blif(text, session)
+}
+
+// The BLIF text, and its length.
+#[no_mangle]
+pub extern "C" fn tusqirma_write_blif(session: &[u64], text: &mut [u8], out: &mut [u64]) -> u64
+    ensures { λ r. ⌜ record { number = r; buffer = now (text .exit); out = now (out .exit) } ≡ writeBlifCall (now (session .entry)) (now (text .entry)) (now (out .entry)) ⌝ }
+{
+    blifcalls::write_blif(session, text, out)
 }

@@ -35,6 +35,14 @@ use Rattle.network.proofs.Cdc.{cdc-exact, cdc-full, cdc-plain}
 use Rattle.network.proofs.CountLaws.{counts-at, counts-fit}
 use Rattle.network.proofs.Inside.{inside-of}
 use Rattle.roundtrip.proofs.RoundTrip.{round-trip}
+use Rattle.blif.specs.Read.{readBlif, readBlifOf}
+use Rattle.blif.specs.Write.{blifText, copiesTest, writeBlifOf}
+use Rattle.bliftrip.proofs.Trip.{blif-trip}
+use Rattle.bliftrip.proofs.Length.{blif-length, blif-room}
+use Rattle.bliftrip.proofs.Covers.{blif-cover}
+use Rattle.bliftrip.proofs.Gives.{text-fresh, text-shaped}
+use Rattle.bliftrip.proofs.SameWords.{blif-words, blif-fresh}
+use Rattle.bliftrip.proofs.Ends.{read-by, copies-by}
 use Rattle.engine.specs.Demands.{Ends, Demand1, allInPlace, Changes, Judged, Reached, Demand2, Demand3}
 use Rattle.engine.proofs.Outcomes.{file, Among, ends, tests-end, read-among}
 
@@ -60,7 +68,7 @@ module _ (s : Session) (new buffer : List ℕ) where
 -- ## Demand 1
 
 pub demand1 : Demand1
-unfolding loadOf tablesOf patternSetsOf exchangeOf exchangeAnswer verdictOf writeOf writtenOf countsOf
+unfolding loadOf tablesOf patternSetsOf exchangeOf exchangeAnswer verdictOf writeOf writtenOf countsOf readBlifOf writeBlifOf
 demand1 = record {
   load = λ bytes. ends file (λ a. onward a (loadDone (opened (readOf bytes .session)))) (readOf bytes .answer) (read-among bytes);
   tables = λ s g. let ns : List ℕ = 10 ∷ 11 ∷ [] in
@@ -81,6 +89,12 @@ demand1 = record {
       tests-end ns (λ a. a) (stateTest s ∷ lengthsTest gs ts ∷ pairsTest N [] rs ∷ harmTest N M ∷ [])
       (state-by Q s refl (λ v. tt), (lengths-by Q gs ts refl (λ e. tt), (pairs-by Q N [] rs refl refl refl tt, (harm-by Q N M (λ x i. refl) tt, tt))));
   write = λ s buffer. fills-end s (bytesOf s) buffer (withLength (length (bytesOf s)));
+  readBlif = λ text. let ns : List ℕ = 3 ∷ 17 ∷ 18 ∷ [] in
+      ends ns (λ a. onward a (loadDone (opened (readBlif text .session)))) (readBlif text .answer) (read-by (Among ns) tt refl refl refl text);
+  writeBlif = λ s buffer. let ns : List ℕ = 3 ∷ 9 ∷ 10 ∷ [] in
+      let new = blifText s in
+      tests-end ns (λ a. withLength (length new) (filled a new buffer)) (stateTest s ∷ copiesTest s ∷ roomTest (length new) buffer ∷ [])
+      (state-by (Among ns) s refl (λ v. tt), (copies-by (Among ns) tt refl s, (room-by (Among ns) (length new) buffer refl (λ l. tt), tt)));
   counts = λ s. ends (10 ∷ []) (λ a. countsFor a s) (stateTest s) (state-by (Among (10 ∷ [])) s refl (λ v. tt));
 }
 
@@ -156,9 +170,16 @@ demand2 = record {
   rule4 = rule4-of;
   inside = inside-of;
   together = together-of;
+  blifWritten = blif-room;
+  blifLength = blif-length;
+  blifTrip = blif-trip;
+  blifCover = blif-cover;
+  blifLoads = blif-words;
+  blifFresh = blif-fresh;
+  blifReached = λ text s rs reads. after-reached s (text-fresh text s reads) rs (text-shaped text s reads);
 }
 
 -- ## Demand 3
 
 pub demand3 : Demand3
-demand3 = demand3-of
+demand3 = record { load = demand3-of; readBlif = λ text s rs reads. blif-fresh text s reads .demand3 rs }

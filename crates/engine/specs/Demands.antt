@@ -1,6 +1,6 @@
 -- The user's three demands, each as one type, over the definitions that the calls' contracts cite. Assumes nothing.
 -- A call of this crate gives what its definition gives: load loadOf, tables tablesOf, pattern_sets patternSetsOf, exchange exchangeOf,
--- verdict verdictOf, write writtenOf, counts countsOf, load_counted countedOf.
+-- verdict verdictOf, write writtenOf, counts countsOf, load_counted countedOf, read_blif readBlifOf, write_blif writeBlifOf.
 use mathlib.Core.Path.{_≡_}
 use mathlib.Core.Logic.{_⊎_, _↔_}
 use mathlib.Core.Bool.{true, false, not}
@@ -15,7 +15,7 @@ use Rattle.network.specs.declared.Session.{Session}
 use Rattle.network.specs.declared.Refusal.{Refusal}
 use Rattle.network.specs.declared.Answer.the-variants.{Done, Refused}
 use Rattle.network.specs.declared.TablesAnswer.the-variants as tables
-use Rattle.network.specs.declared.WriteAnswer.the-variants as write
+use Rattle.network.specs.declared.WriteAnswer.the-variants as wrote
 use Rattle.network.specs.Net.{Net, isGate, entries, patterns, excluded, entryOf, Replacement, replaced}
 use Rattle.network.specs.DontCares.{sdc, cdc, NeverGiven, full, harms}
 use Rattle.network.specs.Compatible.{compatibleCount, compatibleTotal, openTable}
@@ -29,6 +29,10 @@ use Rattle.network.specs.Write.{bytesOf}
 use Rattle.network.specs.Calls.{stored, exchangeOf, verdictOf, verdictOn, gateTables, tablesOf, setWords, patternSetsOf, countsOf, countsFor, writtenOf}
 use Rattle.network.specs.Lists.{Sound, PairExactOf, JudgedOf, FaultedOf, FewOf, ListedOf, UnequalOf, LoneOf}
 use Rattle.network.specs.Sessions.{after, Demand3Of, NoHarm, FirstHarm, Rule4Of, InsideOf, TogetherOf}
+use Rattle.network.specs.Sessions as sessions
+use Rattle.blif.specs.Read.{readBlif, readBlifOf}
+use Rattle.blif.specs.Write.{blifText, writeBlifOf}
+use Rattle.bliftrip.specs.Trip.{BlifTrip, BlifLength, BlifRoom, BlifCover, BlifWords, BlifFresh}
 
 -- ## Demand 1: for every file, buffer, table and session state, a call ends in one of the listed outcomes, or in a numbered refusal
 -- that changes neither state nor lent buffer
@@ -57,10 +61,16 @@ pub record Demand1 : Type 0 where
   pub verdict : (s : Session) (gs ts : List ℕ) → Ends (verdictOf s gs ts) Done (10 ∷ 11 ∷ 12 ∷ 14 ∷ 15 ∷ 16 ∷ []) Refused
   -- a written file, with its length; a refusal leaves the buffer
   pub write : (s : Session) (buffer : List ℕ)
-      → Ends (writtenOf s buffer) (record { answer = write.Written (length (bytesOf s)); buffer = overwritten (bytesOf s) buffer }) (9 ∷ 10 ∷ [])
-      (λ r. record { answer = write.Refused r; buffer = buffer })
+      → Ends (writtenOf s buffer) (record { answer = wrote.Written (length (bytesOf s)); buffer = overwritten (bytesOf s) buffer }) (9 ∷ 10 ∷ [])
+      (λ r. record { answer = wrote.Refused r; buffer = buffer })
   -- the number of patterns in H of each gate
   pub counts : (s : Session) → Ends (countsOf s) (countsFor Done s) (10 ∷ []) (λ r. countsFor (Refused r) s)
+  -- request Four: the network of a BLIF text, its open tables with it; or no state
+  pub readBlif : (text : List ℕ) → Ends (readBlifOf text) (loadDone (opened (readBlif text .session))) (3 ∷ 17 ∷ 18 ∷ []) loadRefused
+  -- a written text, with its length; a refusal leaves the buffer
+  pub writeBlif : (s : Session) (buffer : List ℕ)
+      → Ends (writeBlifOf s buffer) (record { answer = wrote.Written (length (blifText s)); buffer = overwritten (blifText s) buffer }) (3 ∷ 9 ∷ 10 ∷ [])
+      (λ r. record { answer = wrote.Refused r; buffer = buffer })
 
 -- ## Demand 2: the tables are 01's, a list of replacements is judged exactly, and a network written and read again is the same
 
@@ -128,7 +138,7 @@ pub record Demand2 : Type 0 where
   pub lone : LoneOf
   -- a network is written into every buffer that is long enough
   pub written : (s : Session) (buffer : List ℕ) → stateTest s ≡ Done → length (bytesOf s) ≤ length buffer
-      → writtenOf s buffer ≡ record { answer = write.Written (length (bytesOf s)); buffer = overwritten (bytesOf s) buffer }
+      → writtenOf s buffer ≡ record { answer = wrote.Written (length (bytesOf s)); buffer = overwritten (bytesOf s) buffer }
   -- and read again it is the same network
   pub roundTrip : (s : Session) → Shaped s → stateTest s ≡ Done
       → (t : Session) × (loadOf (bytesOf s) ≡ loadDone t) × (loadedNet t ≡ currentNet s) × (currentNet t ≡ currentNet s)
@@ -140,8 +150,21 @@ pub record Demand2 : Type 0 where
   pub inside : InsideOf
   -- there a list of exchanges that would be accepted is harmless as one replacement, and so is every part of it, and nothing at all
   pub together : TogetherOf
+  -- request Four: a network's text is written into every buffer that is long enough, and no text has more than mostBlifBytes
+  pub blifWritten : BlifRoom
+  pub blifLength : BlifLength
+  -- read again it is the network that went out, which has every gate, in its place, and the value of every output
+  pub blifTrip : BlifTrip
+  -- a cover means what its rows say, entry by entry
+  pub blifCover : BlifCover
+  -- the session of a text is the one that its own file loads, so that all that is said above of a load holds of it
+  pub blifLoads : BlifWords
+  -- nothing is excluded in it, and demand 3, rule 4, open inside full and the bridge of several gates hold of it
+  pub blifFresh : BlifFresh
+  pub blifReached : (text : List ℕ) (s : Session) (rs : List Replacement) → readBlifOf text ≡ loadDone s → Reached s (after s rs)
 
--- ## Demand 3: of every list of bytes that loads and every list of exchanges
+-- ## Demand 3: of every list of exchanges, in every session fresh from a load or from a BLIF text
 
-abbrev pub Demand3 : Type 0
-Demand3 = Demand3Of
+pub record Demand3 : Type 0 where
+  pub load : Demand3Of
+  pub readBlif : (text : List ℕ) (s : Session) (rs : List Replacement) → readBlifOf text ≡ loadDone s → sessions.Demand3 s rs

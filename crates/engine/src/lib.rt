@@ -1,10 +1,12 @@
-// The calls: refusal 10 and then the call in a valid session; load. None has a `requires`: whatever is passed, a call gives
+// The calls: refusal 10 and then the call in a valid session; load, and a BLIF text read. None has a `requires`: whatever is passed, a call gives
 // what its definition says, refusals included.
 ghost use mathlib.Core.Path.{_≡_};
 ghost use Rattle.network.specs.declared.Answer.the-variants.{Done};
 ghost use Rattle.network.specs.State.{stateFault};
-ghost use Rattle.network.specs.Load.{loadOf, loadDone, withOpenTables, opened};
+ghost use Rattle.network.specs.Load.{loadOf, loadDone, onward, withOpenTables, opened};
 ghost use Rattle.network.specs.Calls.{exchangeAnswer, exchangeOf, verdictOf, tablesOf, patternSetsOf, countsFor, countsOf, writtenOf};
+ghost use Rattle.blif.specs.Read.{readBlifOf};
+ghost use Rattle.blif.specs.Write.{writeBlifOf};
 ghost use Rattle.engine.specs.Counted.{countedOf};
 use network::Answer;
 use network::Counts;
@@ -106,11 +108,16 @@ fn holding(s: Session, opens: [u64; MOST_GATES]) -> Loaded
     }
 }
 
-// The session of a network that was read, with the open tables of its gates.
-fn with_open_tables(s: Session) -> Loaded
-    requires { ⌜ stateFault s ≡ Done ⌝ }
-    ensures { λ r. ⌜ r ≡ loadDone (opened s) ⌝ }
+// What was read, with the open tables of its gates; a refusal gives no state.
+fn with_open_tables(l: Loaded) -> Loaded
+    requires { ⌜ (l .answer ≡ Done → stateFault (l .session) ≡ Done) ⌝ }
+    ensures { λ r. ⌜ r ≡ onward (l .answer) (loadDone (opened (l .session))) ⌝ }
 {
+    let a = l.answer;
+    if let Answer::Refused(r) = a {
+        return network::refused(r);
+    }
+    let s = l.session;
     let o = opentables::open_tables(s);
     holding(s, o)
 }
@@ -119,13 +126,14 @@ fn with_open_tables(s: Session) -> Loaded
 pub fn load(bytes: &[u8]) -> Loaded
     ensures { λ r. ⌜ r ≡ loadOf (now (bytes .entry)) ⌝ }
 {
-    let l = netread::read(bytes);
-    let a = l.answer;
-    if let Answer::Refused(r) = a {
-        return network::refused(r);
-    }
-    let s = l.session;
-    with_open_tables(s)
+    with_open_tables(netread::read(bytes))
+}
+
+// Any bytes: a session with the network of the BLIF text and nothing excluded, or no state.
+pub fn read_blif(text: &[u8]) -> Loaded
+    ensures { λ r. ⌜ r ≡ readBlifOf (now (text .entry)) ⌝ }
+{
+    with_open_tables(blifread::read(text))
 }
 
 // A load, and the number of patterns in the compatible set of each gate that it gives.
@@ -174,4 +182,15 @@ pub fn write(s: Session, buf: &mut [u8]) -> WriteAnswer
         return WriteAnswer::Refused(r);
     }
     answers::write(s, buf)
+}
+
+// The network with its current tables as BLIF text from the start of the buffer, with the length; the rest of the buffer stays.
+pub fn write_blif(s: Session, buf: &mut [u8]) -> WriteAnswer
+    ensures { λ r. ⌜ record { answer = r; buffer = now (buf .exit) } ≡ writeBlifOf s (now (buf .entry)) ⌝ }
+{
+    let v = state::state_test(s);
+    if let Answer::Refused(refusal) = v {
+        return WriteAnswer::Refused(refusal);
+    }
+    blifwrite::write(s, buf)
 }

@@ -9,14 +9,7 @@ use network::WriteAnswer;
 pub fn load(file: &[u8], session: &mut [u64]) -> u64
     ensures { λ r. ⌜ record { number = r; buffer = now (session .exit); out = [] } ≡ loadCall (now (file .entry)) (now (session .entry)) ⌝ }
 {
-    let l = engine::load(file);
-    let tested = l.answer;
-    let a = boundary::room(tested, session.len(), packed::SESSION_WORDS);
-    if let Answer::Refused(r) = a {
-        return network::number_of(r);
-    }
-    packed::pack(l.session, session);
-    0
+    boundary::put_read(engine::load(file), session)
 }
 
 // The file's bytes, and its length.

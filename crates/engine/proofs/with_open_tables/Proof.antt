@@ -8,16 +8,30 @@ use borrow.Author.Needs.{needs}
 use Rattle.engine.proofs.with_open_tables.Statement.{statement}
 use Rattle.engine.proofs.with_open_tables.Tie as tie
 
+enum-known-a : tie.Need-enum-known-a
+enum-known-a c = search needs
+
+refused-requires : tie.Need-refused-requires
+refused-requires c κs = search needs
+
+returns : tie.Need-returns
+returns c = rw (c .before .before .a .given .1) (c .refused .ensures)
+
+enum-told : tie.Need-enum-told
+enum-told c = search needs
+
 open-tables-requires : tie.Need-open-tables-requires
-open-tables-requires c κs = search needs
+open-tables-requires c κs = let k = c .before in k .before .before .pre (k .enum-told .given .1)
 
 holding-requires : tie.Need-holding-requires
 holding-requires c κs = search needs
 
-returns : tie.Need-returns
-returns c =
-    c .holding .ensures
-    ∙ ap {B = Loaded} (λ (l : List ℕ). loadDone (withOpenTables (c .before .before .args .s) l)) (c .before .open-tables .ensures)
+returns-2 : tie.Need-returns-2
+returns-2 c =
+    let k = c .before .before .before in
+    rw (k .enum-told .given .1)
+    (c .holding .ensures
+    ∙ ap {B = Loaded} (λ (l : List ℕ). loadDone (withOpenTables (k .before .before .args .l .session) l)) (c .before .open-tables .ensures))
 
 pub with-open-tables-spec : {M : Type 1} → statement M
-with-open-tables-spec = tie.close (tie.spec open-tables-requires holding-requires returns)
+with-open-tables-spec = tie.close (tie.spec enum-known-a refused-requires returns enum-told open-tables-requires holding-requires returns-2)
