@@ -4,7 +4,7 @@
 #include <stddef.h>
 #include <stdint.h>
 
-enum { GATES = 40, INPUTS = 10, SIGNALS = 50, OUTPUTS = 8, FANINS = 4, WORDS = 16 };
+enum { GATES = 40, INPUTS = 10, SIGNALS = 50, OUTPUTS = 8, FANINS = 4, WORDS = 16, MOST_BLIF = 5663 };
 
 typedef struct {
     int n, m, p;
@@ -38,6 +38,12 @@ extern const Baseline PLAIN, TUNED;
 
 /* 0, or one of the refusals 1 to 8 */
 int parse(const uint8_t *file, size_t size, Network *net);
+
+/* 0, or 17, 18 or 3 by the first line at fault */
+int parse_blif(const uint8_t *text, size_t size, Network *net);
+
+/* puts the text, for which MOST_BLIF bytes are enough, and gives its length; 0 where the copies make more than 40 gates */
+size_t print_blif(const Network *net, uint8_t *text);
 
 /* 0 or 10; 0, 10, 15, or 11, 16 or 12 of the first pair at fault */
 int state_test(const Network *loaded, const Network *current);

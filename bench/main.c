@@ -11,10 +11,10 @@ enum { CASES = 21, BATCHES = 5 };
 #define FILE_SIZE TUSQIRMA_MOST_FILE
 #define SESSION TUSQIRMA_SESSION_WORDS
 
-/* a network, a question about some of its gates, and room for the answers */
+/* a network as a file and as a text, a question about some of its gates, and room for the answers */
 typedef struct {
-    uint8_t file[FILE_SIZE];
-    size_t size;
+    uint8_t file[FILE_SIZE], text[MOST_BLIF];
+    size_t size, text_size;
     Network loaded, current, replaced;
     Sets sets;
     uint64_t session[SESSION], out[2 * GATES * WORDS];
@@ -83,10 +83,29 @@ static void die(const char *what) {
 static void our_load(Case *c) {
     if (tusqirma_load(c->file, c->size, c->session, SESSION)) die("load");
 }
-static void base_load(const Baseline *b, Case *c) {
-    if (parse(c->file, c->size, &c->loaded)) die("parse");
+static void begin(const Baseline *b, Case *c) {
     b->compatible(&c->loaded, &c->sets);
     c->current = c->loaded;
+}
+static void base_load(const Baseline *b, Case *c) {
+    if (parse(c->file, c->size, &c->loaded)) die("parse");
+    begin(b, c);
+}
+static void our_read_blif(Case *c) {
+    if (tusqirma_read_blif(c->text, c->text_size, c->session, SESSION)) die("read BLIF");
+}
+static void base_read_blif(const Baseline *b, Case *c) {
+    if (parse_blif(c->text, c->text_size, &c->loaded)) die("parse BLIF");
+    begin(b, c);
+}
+static void our_write_blif(Case *c) {
+    if (tusqirma_write_blif(c->session, SESSION, c->text, MOST_BLIF, c->out, 1)) die("write BLIF");
+    c->text_size = (size_t)c->out[0];
+}
+static void base_write_blif(const Baseline *b, Case *c) {
+    (void)b;
+    if (state_test(&c->loaded, &c->current)) die("state");
+    c->text_size = print_blif(&c->current, c->text);
 }
 static void our_listing(Case *c) {
     uint8_t text[TUSQIRMA_MOST_TEXT];
@@ -190,6 +209,8 @@ static const Task TASKS[] = {
     {"verdict on all gates, harmful", 14, all_altered, our_verdict, base_verdict},
     {"exchange, accepted", 0, allowed, our_exchange, base_exchange},
     {"exchange, refused", 13, closed, our_exchange, base_exchange},
+    {"read BLIF: a session with its open tables", 0, any, our_read_blif, base_read_blif},
+    {"write BLIF", 0, any, our_write_blif, base_write_blif},
 };
 
 /* ## Every result is compared first */
@@ -215,6 +236,23 @@ static void compare_sets(Case *c) {
     }
 }
 
+/* the text is as the library first wrote it */
+static void compare_text(const Case *c, const uint8_t *text, size_t size) {
+    same(size == c->text_size && !memcmp(text, c->text, size), "BLIF text");
+}
+
+/* the same text from both, before and after they read it, and the same open tables */
+static void compare_blif(Case *c, const Baseline *b) {
+    uint8_t text[MOST_BLIF];
+    our_load(c), our_write_blif(c);
+    size_t size = c->text_size;
+    memcpy(text, c->text, size);
+    base_load(b, c), base_write_blif(b, c), compare_text(c, text, size);
+    our_read_blif(c), our_write_blif(c), compare_text(c, text, size);
+    base_read_blif(b, c), base_write_blif(b, c), compare_text(c, text, size);
+    for (int g = 0; g < c->loaded.m; g++) same(c->session[TUSQIRMA_WORD_OPEN + g] == c->sets.open[g], "open table of a text");
+}
+
 static void compare_answers(Case *c, const Task *task) {
     task->ours(c);
     Answer own = c->answer;
@@ -227,6 +265,7 @@ static void compare_answers(Case *c, const Task *task) {
 
 /* whether the task has a question to ask of the network */
 static int prepare(Case *c, const Task *task) {
+    compare_blif(c, &PLAIN), compare_blif(c, &TUNED);
     our_load(c);
     base_load(&PLAIN, c), base_tables(&PLAIN, c);
     compare_sets(c);

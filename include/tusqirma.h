@@ -18,10 +18,11 @@
  * read the same one. A call takes no heap, and up to 64 kB of stack.
  *
  * Refusals. TUSQIRMA_CLOSED_ENTRY and TUSQIRMA_HARM write the values that they name to the start of `out`, and nothing
- * else. In every other refusal each lent word and byte stays as it was. A session is written by tusqirma_load and
- * tusqirma_exchange alone, and only where they return 0.
+ * else. In every other refusal each lent word and byte stays as it was. A session is written by tusqirma_load,
+ * tusqirma_read_blif and tusqirma_exchange alone, and only where they return 0. A network is loaded by either of the first
+ * two.
  *
- * Proved of these calls, for every file and every length of a buffer (docs/DEMANDS.md leads to the theorems):
+ * Proved of these calls, for every file, text and length of a buffer (docs/DEMANDS.md leads to the theorems):
  *   - A call ends in 0 or in one of the refusals named beside it, and writes inside the buffers that it was lent.
  *   - After a load and any list of exchanges, refused ones included, a gate set several times or set back: every output on
  *     every pattern not excluded stays that of the loaded network, and each gate has the table of its last accepted
@@ -30,9 +31,12 @@
  *     table. What exchanges would accept, each for itself, is harmless on one verdict, and so is every part of it.
  *   - A verdict finds harm exactly when some pattern that is not excluded changes an output with all of its gates replaced.
  *   - A network written and loaded again is the same network.
+ *   - A network written as BLIF and read again has the same inputs, the same gates under the same numbers, the value of
+ *     every output at every pattern, and the same text once more.
  *
- * Order of the tests. tusqirma_load: 1 to 8, then 9. The calls on a session: 9 for a session of fewer than 427 words, 10,
- * 9 for any other buffer, then 11, 12 and 13; a verdict 15, then of each pair in order 11, 16 and 12, then 14.
+ * Order of the tests. tusqirma_load: 1 to 8, then 9. tusqirma_read_blif: 17, 18 and 3 of the first line at fault, then 9.
+ * The calls on a session: 9 for a session of fewer than 427 words, 10, 9 for any other buffer, then 11, 12 and 13; a
+ * verdict 15, then of each pair in order 11, 16 and 12, then 14; tusqirma_write_blif 3 between 10 and 9.
  * tusqirma_listing: 9 only.
  */
 #ifndef TUSQIRMA_H
@@ -67,7 +71,10 @@ enum tusqirma_refusal {
     TUSQIRMA_CLOSED_ENTRY = 13,     /* exchange: alters a closed entry of the loaded table; out[0]: the smallest */
     TUSQIRMA_HARM = 14,             /* verdict: an output changes; out[0]: the smallest pattern, out[1]: there, the lowest output */
     TUSQIRMA_LISTS_UNEQUAL = 15,    /* verdict: lists of unequal length */
-    TUSQIRMA_GATE_REPEATED = 16     /* verdict: a gate named a second time */
+    TUSQIRMA_GATE_REPEATED = 16,    /* verdict: a gate named a second time */
+    /* the BLIF text */
+    TUSQIRMA_OUTSIDE_SUBSET = 17,   /* a line outside the subset or out of order, or no line where one is due */
+    TUSQIRMA_BAD_NAME = 18          /* a name unknown where used, defined twice, or listed twice in one line */
 };
 
 /*
@@ -100,6 +107,7 @@ enum tusqirma_word {
 enum tusqirma_most {
     TUSQIRMA_MOST_FILE = 519,           /* bytes of a file that loads */
     TUSQIRMA_MOST_TEXT = 1042,          /* bytes of a listing */
+    TUSQIRMA_MOST_BLIF = 5663,          /* bytes of a BLIF text from tusqirma_write_blif */
     TUSQIRMA_MOST_GATES = 40,           /* words for tusqirma_hidden */
     TUSQIRMA_MOST_TABLE_WORDS = 160,    /* words for tusqirma_all_tables */
     TUSQIRMA_MOST_PATTERN_WORDS = 1280  /* words for tusqirma_pattern_sets */
@@ -113,6 +121,22 @@ size_t tusqirma_session_words(void);
  * loaded ones. Refusals 1 to 8, then 9.
  */
 uint64_t tusqirma_load(const uint8_t *file, size_t file_len, uint64_t *session, size_t session_len);
+
+/*
+ * Reads a BLIF text into `session` (427 words; those behind stay), as tusqirma_load reads a file; nothing is excluded.
+ * Refusals 17, 18 or 3, by the first line at fault, then 9.
+ *
+ * Lines end in newlines, the last may lack its own; `#` starts a comment anywhere; blank lines are passed over. Words, of
+ * the bytes 21 to 7E, are parted by spaces, tabs and carriage returns; any word may be a name. The lines, in this order:
+ *   .model NAME        the name is not kept
+ *   .inputs NAME ..    1 to 10 names: signals 0 to n-1
+ *   .outputs NAME ..   1 to 8 names, which are looked up at .end
+ *   .names NAME ..     1 to 40 times: the names of 1 to 4 fan-ins, known by then, and of the gate. Its rows follow: a 0, 1
+ *                      or - for each fan-in, the first leftmost, and behind them a 1, in all rows of the gate, or a 0.
+ *                      The entries that some row answers have that value, the others the other; without rows all are 0.
+ *   .end               nothing but blank lines and comments behind it
+ */
+uint64_t tusqirma_read_blif(const uint8_t *text, size_t text_len, uint64_t *session, size_t session_len);
 
 /*
  * The tables of one gate, to `out` (4 words). The first three are of the current network; the open table is the one that
@@ -163,6 +187,14 @@ uint64_t tusqirma_exchange(uint64_t *session, size_t session_len, size_t gate, u
  * (1 word). An empty excluded set is left out. Refusals 9 (`out`, or `file` shorter than these bytes), 10.
  */
 uint64_t tusqirma_write(const uint64_t *session, size_t session_len, uint8_t *file, size_t file_len, uint64_t *out, size_t out_len);
+
+/*
+ * The network with its current tables as BLIF from the start of `text`, and the number of its bytes to `out` (1 word); no
+ * zero byte follows. Signal x is called `sx`. An output that repeats an earlier one or is an input gets a gate that copies
+ * it, behind all others and in output order. Excluded sets do not go out.
+ * Refusals 9 (session), 10, 3 (over 40 gates with the copies), 9 (`out`, or `text` shorter than these bytes).
+ */
+uint64_t tusqirma_write_blif(const uint64_t *session, size_t session_len, uint8_t *text, size_t text_len, uint64_t *out, size_t out_len);
 
 /*
  * The listing of a file, from the start of `text`, and the number of its bytes to `out` (1 word). No zero byte follows.

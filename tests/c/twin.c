@@ -7,6 +7,8 @@
 static const uint8_t twin[] = {0x4E, 0x49, 1, 3, 1, 0x4E, 0x47, 1, 0, 2,    0, 0x4E, 0x47, 1,
                                0,    2,    0, 0x4E, 0x47, 2, 1, 2, 0x0E, 0, 0x4E, 0x4F, 3};
 
+static const uint8_t one_gate[] = ".model t\n.inputs a\n.outputs f\n.names a f\n1 1\n.end\n";
+
 static uint64_t session[TUSQIRMA_SESSION_WORDS];
 
 /* Prints what a call returned, and the words that it gave. */
@@ -66,6 +68,20 @@ static void write_again(void)
     listing(file, (size_t)bytes[0]);
 }
 
+/* As BLIF, and read again: the words of the session are these. */
+static void blif(void)
+{
+    uint8_t text[TUSQIRMA_MOST_BLIF];
+    uint64_t bytes[1] = {0}, again[TUSQIRMA_SESSION_WORDS];
+    uint64_t number = tusqirma_write_blif(session, TUSQIRMA_SESSION_WORDS, text, sizeof text, bytes, 1);
+    print("write BLIF", number, bytes, 1);
+    fwrite(text, 1, (size_t)bytes[0], stdout);
+    number = tusqirma_read_blif(text, (size_t)bytes[0], again, TUSQIRMA_SESSION_WORDS);
+    print("read BLIF", number, again, 3);
+    print("its tables", number, again + TUSQIRMA_WORD_CURRENT, 3);
+    print("its open tables", number, again + TUSQIRMA_WORD_OPEN, 3);
+}
+
 /* Each buffer of each call in turn null, with length 0; the others as the call needs them. */
 static void nulls(void)
 {
@@ -92,6 +108,11 @@ static void nulls(void)
     print("write, null session", tusqirma_write(NULL, 0, bytes, sizeof bytes, out, 1), out, 0);
     print("write, null file", tusqirma_write(session, WORDS, NULL, 0, out, 1), out, 0);
     print("write, null out", tusqirma_write(session, WORDS, bytes, sizeof bytes, NULL, 0), out, 0);
+    print("read BLIF, null text", tusqirma_read_blif(NULL, 0, session, WORDS), out, 0);
+    print("read BLIF, null session", tusqirma_read_blif(one_gate, sizeof one_gate - 1, NULL, 0), out, 0);
+    print("write BLIF, null session", tusqirma_write_blif(NULL, 0, bytes, sizeof bytes, out, 1), out, 0);
+    print("write BLIF, null text", tusqirma_write_blif(session, WORDS, NULL, 0, out, 1), out, 0);
+    print("write BLIF, null out", tusqirma_write_blif(session, WORDS, bytes, sizeof bytes, NULL, 0), out, 0);
     print("listing, null text", tusqirma_listing(twin, sizeof twin, NULL, 0, out, 1), out, 0);
     print("listing, null out", tusqirma_listing(twin, sizeof twin, bytes, sizeof bytes, NULL, 0), out, 0);
     listing(NULL, 0);
@@ -103,6 +124,9 @@ static void refusals(void)
     uint64_t n = session[TUSQIRMA_WORD_N];
     print("load one byte short", tusqirma_load(twin, sizeof twin - 1, session, TUSQIRMA_SESSION_WORDS), out, 0);
     print("load to a short session", tusqirma_load(twin, sizeof twin, session, TUSQIRMA_SESSION_WORDS - 1), out, 0);
+    print("read BLIF to a short session", tusqirma_read_blif(one_gate, sizeof one_gate - 1, session, TUSQIRMA_SESSION_WORDS - 1), out, 0);
+    print("read BLIF without .end", tusqirma_read_blif(one_gate, sizeof one_gate - 6, session, TUSQIRMA_SESSION_WORDS), out, 0);
+    print("read BLIF without .inputs", tusqirma_read_blif(one_gate, 9, session, TUSQIRMA_SESSION_WORDS), out, 0);
     print("tables of an input", tusqirma_tables(session, TUSQIRMA_SESSION_WORDS, 0, out, 4), out, 0);
     session[TUSQIRMA_WORD_N] = 11;
     print("tables of a state with n 11", tusqirma_tables(session, TUSQIRMA_SESSION_WORDS, 1, out, 4), out, 0);
@@ -127,6 +151,7 @@ int main(void)
     exchange("exchange, gate 4 to 0", 4, 0);
     nulls();
     write_again();
+    blif();
     refusals();
     return 0;
 }

@@ -1,4 +1,5 @@
-//! C programs that include the header and link the archive: one makes every call on the twin network, one is the example.
+//! C programs that include the header and link the archive: one makes every call on the twin network, the others are the
+//! examples.
 
 use crate::report::Report;
 use std::fs::File;
@@ -28,8 +29,17 @@ pub fn printed(command: &mut Command) -> String {
     }
 }
 
-/// Compiles with warnings as errors, then compares each line that the program prints for a file with the one that 01 leads to.
-fn program(report: &mut Report, source: &str, input: &str, want: &str) {
+/// A program that goes when it is dropped.
+pub struct Program(pub PathBuf);
+
+impl Drop for Program {
+    fn drop(&mut self) {
+        let _ = std::fs::remove_file(&self.0);
+    }
+}
+
+/// Compiles with warnings as errors.
+pub fn built(report: &mut Report, source: &str) -> Program {
     let (root, library) = folders();
     let program = std::env::temp_dir().join(format!("tusqirma-c-{}", std::process::id()));
     let said = printed(
@@ -44,9 +54,14 @@ fn program(report: &mut Report, source: &str, input: &str, want: &str) {
     );
     let failed = !said.is_empty();
     report.count(0, failed.then(|| format!("{source}, cc:\n{said}")));
-    let file = File::open(root.join(input)).expect("a file of the repository");
-    let got = printed(Command::new(&program).stdin(file));
-    let _ = std::fs::remove_file(&program);
+    Program(program)
+}
+
+/// Compares each line that the program prints for a file with the one that 01 leads to.
+fn program(report: &mut Report, source: &str, input: &str, want: &str) {
+    let program = built(report, source);
+    let file = File::open(folders().0.join(input)).expect("a file of the repository");
+    let got = printed(Command::new(&program.0).stdin(file));
     report.lines(source, &got, want);
 }
 

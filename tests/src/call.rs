@@ -4,6 +4,7 @@
 #[derive(Clone, Debug, PartialEq)]
 pub enum Call {
     Load,
+    ReadBlif,
     Tables { gate: usize },
     AllTables,
     PatternSets,
@@ -11,24 +12,29 @@ pub enum Call {
     Verdict { gates: Vec<u64>, tables: Vec<u64> },
     Exchange { gate: usize, table: u64 },
     Write,
+    WriteBlif,
     Listing,
 }
 
 /// The buffers of a call. One that a call does not take stays as it is.
 #[derive(Clone, Debug, PartialEq)]
 pub struct Lent {
-    /// The session: written by load and exchange, read by the others.
+    /// The session: written by load, read BLIF and exchange, read by the others.
     pub session: Vec<u64>,
-    /// The file that load and listing read.
+    /// The file that load and listing read, or the text that read BLIF does.
     pub file: Vec<u8>,
-    /// Where write puts the file, and listing the text.
+    /// Where write puts the file, and write BLIF and listing the text.
     pub bytes: Vec<u8>,
     /// `out`, or `words` of the pattern sets.
     pub out: Vec<u64>,
 }
 
-/// More bytes and words than any call needs.
+/// Bytes that are enough for any BLIF text that goes out.
+pub const MOST_BLIF: usize = 5663;
+
+/// More words than any call needs, and more bytes.
 pub const ROOM: usize = 1300;
+pub const BYTES: usize = MOST_BLIF + 9;
 
 impl Lent {
     /// With a known filling in the buffers that are only written.
@@ -43,12 +49,12 @@ impl Lent {
 
     /// A session with more than enough room beside it.
     pub fn session(words: &[u64]) -> Lent {
-        Lent::new(words, &[], ROOM, ROOM)
+        Lent::new(words, &[], BYTES, ROOM)
     }
 
-    /// A file with more than enough room beside it.
+    /// A file or a text with more than enough room beside it.
     pub fn file(file: &[u8]) -> Lent {
-        Lent::new(&filling(430), file, ROOM, ROOM)
+        Lent::new(&filling(430), file, BYTES, ROOM)
     }
 }
 

@@ -3,7 +3,7 @@
 
 use crate::call::{Call, Lent};
 use crate::engine::{BINDING, RAW};
-use crate::files::{listed, HEAD, TWIN};
+use crate::files::{listed, loaded, HEAD, TWIN};
 use crate::report::{Case, Report};
 use std::collections::BTreeSet;
 
@@ -18,13 +18,6 @@ fn chain(n: u8, m: u8, excluded: usize, output: u8) -> Vec<u8> {
         .collect();
     let head = [0x4E, 0x49, n, m, 1, 0x4E, 0x58];
     [&head, &set[..], &gates, &[0x4E, 0x4F, output]].concat()
-}
-
-/// The session that a load of the file gives.
-fn loaded(report: &mut Report, file: &[u8]) -> Vec<u64> {
-    let case = Case::new(0, file);
-    let (_, after) = report.compare(&[RAW, BINDING], &Call::Load, &Lent::file(file), &case);
-    after.session
 }
 
 /// The counts of a session have to be these, by 01's words and by the enumeration; a word too few is 9.

@@ -4,7 +4,7 @@
 use crate::call::{Call, Lent, Way};
 use crate::reference::WORDS;
 use std::io::Write;
-use std::process::{Command, Stdio};
+use std::process::{Command, Output, Stdio};
 use std::sync::OnceLock;
 use tusqirma::{raw, Refusal, Session, Tables};
 
@@ -67,6 +67,7 @@ fn raw_call(call: &Call, lent: &mut Lent) -> u64 {
     let (s, f, b, o) = (session.lent(), file.lent(), bytes.lent(), out.lent());
     let number = match call {
         Call::Load => raw::load(f, s),
+        Call::ReadBlif => raw::read_blif(f, s),
         Call::Tables { gate } => raw::tables(s, *gate, o),
         Call::AllTables => raw::all_tables(s, o),
         Call::PatternSets => raw::pattern_sets(s, o),
@@ -77,6 +78,7 @@ fn raw_call(call: &Call, lent: &mut Lent) -> u64 {
         }
         Call::Exchange { gate, table } => raw::exchange(s, *gate, *table, o),
         Call::Write => raw::write(s, b, o),
+        Call::WriteBlif => raw::write_blif(s, b, o),
         Call::Listing => raw::listing(f, b, o),
     };
     session.back(WORD, &mut lent.session);
@@ -105,22 +107,28 @@ fn binding_call(call: &Call, lent: &mut Lent) -> u64 {
 
 fn by_binding(call: &Call, lent: &mut Lent) -> Result<(), Refusal> {
     match call {
-        Call::Load => {
-            let session = Session::load(&lent.file)?;
-            lent.session[..WORDS].copy_from_slice(session.words());
-            Ok(())
-        }
-        Call::Listing => {
-            lay_with_length(lent, tusqirma::listing(&lent.file).as_bytes());
-            Ok(())
-        }
-        _ => on_session(call, lent),
+        Call::Load => lay_session(lent, &Session::load(&lent.file)?),
+        Call::ReadBlif => lay_session(lent, &Session::read_blif(&lent.file)?),
+        Call::Write => lay_with_length(lent, &session(lent).write()?),
+        Call::WriteBlif => lay_with_length(lent, session(lent).write_blif()?.as_bytes()),
+        Call::Listing => lay_with_length(lent, tusqirma::listing(&lent.file).as_bytes()),
+        _ => on_session(call, lent)?,
     }
+    Ok(())
 }
 
-fn on_session(call: &Call, lent: &mut Lent) -> Result<(), Refusal> {
+fn session(lent: &Lent) -> Session {
     let words: [u64; WORDS] = lent.session[..WORDS].try_into().expect("as many");
-    let mut session = Session::from_words(words);
+    Session::from_words(words)
+}
+
+fn lay_session(lent: &mut Lent, session: &Session) {
+    lent.session[..WORDS].copy_from_slice(session.words());
+}
+
+/// The calls on a session whose words go to `out`.
+fn on_session(call: &Call, lent: &mut Lent) -> Result<(), Refusal> {
+    let mut session = session(lent);
     let four = |t: Tables| [t.sdc, t.cdc, t.full, t.open];
     let filled: Vec<u64> = match call {
         Call::Tables { gate } => four(session.tables(*gate)?).to_vec(),
@@ -137,12 +145,9 @@ fn on_session(call: &Call, lent: &mut Lent) -> Result<(), Refusal> {
             session.verdict(&pairs).map(|()| vec![])?
         }
         Call::Exchange { gate, table } => session.exchange(*gate, *table).map(|()| vec![])?,
-        _ => {
-            lay_with_length(lent, &session.write()?);
-            return Ok(());
-        }
+        _ => unreachable!("no such call"),
     };
-    lent.session[..WORDS].copy_from_slice(session.words());
+    lay_session(lent, &session);
     lent.out[..filled.len()].copy_from_slice(&filled);
     Ok(())
 }
@@ -160,17 +165,23 @@ pub static LISTING: OnceLock<String> = OnceLock::new();
 /// The answer of a run that fails or prints to its standard error: no call returns it.
 const FAILED: u64 = u64::MAX;
 
-/// The listing of a file by the program, which reads it from its standard input.
-fn program_call(_: &Call, lent: &mut Lent) -> u64 {
-    let mut child = Command::new(LISTING.get().expect("the first argument"))
+/// What a program leaves that gets these bytes on its standard input.
+pub fn fed(command: &mut Command, input: &[u8]) -> Output {
+    let mut child = command
         .stdin(Stdio::piped())
         .stdout(Stdio::piped())
         .stderr(Stdio::piped())
         .spawn()
         .expect("the program starts");
-    // the program reads no more than it needs, so the pipe may close early
-    let _ = child.stdin.take().expect("piped").write_all(&lent.file);
-    let output = child.wait_with_output().expect("the program ends");
+    // a program reads no more than it needs, so the pipe may close early
+    let _ = child.stdin.take().expect("piped").write_all(input);
+    child.wait_with_output().expect("the program ends")
+}
+
+/// The listing of a file by the program, which reads it from its standard input.
+fn program_call(_: &Call, lent: &mut Lent) -> u64 {
+    let mut program = Command::new(LISTING.get().expect("the first argument"));
+    let output = fed(&mut program, &lent.file);
     lay_with_length(lent, &output.stdout);
     if output.status.success() && output.stderr.is_empty() {
         0

@@ -44,6 +44,13 @@ pub fn listed(report: &mut Report, what: &str, file: &[u8], text: &str) {
     }
 }
 
+/// The session that a load of the file gives.
+pub fn loaded(report: &mut Report, file: &[u8]) -> Vec<u64> {
+    let case = Case::new(0, file);
+    let (_, after) = report.compare(&[RAW, BINDING], &Call::Load, &Lent::file(file), &case);
+    after.session
+}
+
 /// A network of m gates that all copy input 0, with one output.
 fn copies(n: u8, m: u8) -> Vec<u8> {
     let gates = [0x4E, 0x47, 1, 0, 2, 0].repeat(m as usize);

@@ -1,4 +1,4 @@
-//! Compares the engine with a plain enumeration of document 01: through its C boundary, by raw calls and by the binding,
+//! Compares the engine with a plain enumeration of documents 01 and 02: through its C boundary, by raw calls and by the binding,
 //! and through the programs.
 //!
 //!     tusqirma-tests LISTING ORDER [--seed N] [--networks N] [--long]
@@ -7,8 +7,10 @@
 //! Prints the seed; each part prints its smallest failed case; the last line is `N passed, M failed`.
 
 mod alterations;
+mod blif;
 mod c;
 mod call;
+mod convert;
 mod counts;
 mod damage;
 mod engine;
@@ -46,6 +48,7 @@ fn main() {
     println!("seed {seed}, {count} networks");
     let mut report = Report::default();
     report.part("C program", c::compare);
+    report.part("converter", convert::compare);
     report.part("binding's example", example::compare);
     report.part("refusals in words", refusals::compare);
     report.part("program's input and output", program::compare);
@@ -59,7 +62,14 @@ fn main() {
     report.part("networks", |r| networks::compare(r, seed, count));
     report.part("sessions", |r| sessions::compare(r, seed, count));
     report.part("states made by hand", |r| states::compare(r, seed, count));
+    report.part("stated BLIF texts", blif::texts_stated);
+    report.part("stated BLIF out", blif::written_stated);
+    report.part("BLIF texts", |r| blif::texts(r, seed, count));
+    report.part("damaged BLIF texts", |r| blif::damaged(r, seed, count));
+    report.part("random BLIF lines", |r| blif::random_lines(r, seed, count));
+    report.part("BLIF out and back", |r| blif::trips(r, seed, count));
     let few = 20 + count / 100;
+    report.part("cut BLIF texts", |r| blif::cuts(r, seed, few));
     report.part("short buffers", |r| short::compare(r, seed, few));
     report.part("stated orders", order::stated);
     report.part("files and outputs that fail", order::failures);

@@ -9,13 +9,13 @@ use crate::report::{Case, Report};
 pub fn compare(report: &mut Report, seed: u64, cases: usize) {
     report.cases(cases, |report, i| {
         let file = random::network(&mut Random::new(seed, report.name(), i), i);
-        see(
-            report,
-            &reference::load(&file).expect("a random network loads"),
-        );
+        let loaded = reference::load(&file).expect("a random network loads");
+        see_counts(report, &loaded);
+        see_excluded(report, &loaded);
         compare_file(report, &Case::new(i, &file));
     });
-    bounds(report);
+    require_counts(report);
+    require_excluded(report);
 }
 
 fn compare_file(report: &mut Report, case: &Case) {
@@ -31,14 +31,15 @@ fn compare_file(report: &mut Report, case: &Case) {
         Call::PatternSets,
         Call::Hidden,
         Call::Write,
+        Call::WriteBlif,
     ];
     for call in each.chain(all) {
         report.compare(&[RAW, BINDING], &call, &session, case);
     }
 }
 
-/// Notes the network's counts, and its excluded set.
-fn see(report: &mut Report, s: &Network) {
+/// Notes the network's counts.
+pub fn see_counts(report: &mut Report, s: &Network) {
     let m = s.m();
     report.see(format!("n {}", s.n));
     report.see(format!("m {m}"));
@@ -49,7 +50,6 @@ fn see(report: &mut Report, s: &Network) {
     if s.n == 10 && m == 40 {
         report.see("n 10 and m 40");
     }
-    see_excluded(report, s);
 }
 
 /// Notes the kind of the excluded set, and whether the CDC of a gate shows it.
@@ -76,15 +76,19 @@ fn see_excluded(report: &mut Report, s: &Network) {
     }
 }
 
-/// Each number of inputs, outputs and fan-ins, one gate and forty, and each kind of excluded set have to have been met.
-fn bounds(report: &mut Report) {
+/// Each number of inputs, outputs and fan-ins, one gate and forty have to have been met.
+pub fn require_counts(report: &mut Report) {
     let all = |name: &'static str, most| (1..=most).map(move |c| format!("{name} {c}"));
     let counts = all("n", 10).chain(all("p", 8)).chain(all("k", 4));
     counts.for_each(|what| report.require_seen(&what));
+    for what in ["m 1", "m 40", "n 10 and m 40"] {
+        report.require_seen(what);
+    }
+}
+
+/// Each kind of excluded set too.
+fn require_excluded(report: &mut Report) {
     for what in [
-        "m 1",
-        "m 40",
-        "n 10 and m 40",
         "an empty excluded set",
         "a sparse excluded set",
         "a dense excluded set",

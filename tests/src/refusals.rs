@@ -10,6 +10,10 @@ fn load(file: &[u8]) -> Result<(), Refusal> {
     Session::load(file).map(|_| ())
 }
 
+fn read_blif(text: &[u8]) -> Result<(), Refusal> {
+    Session::read_blif(text).map(|_| ())
+}
+
 pub fn compare(report: &mut Report) {
     let file = include_bytes!("../../examples/board.net");
     let mut board = Session::load(file).expect("the example's board loads");
@@ -19,7 +23,7 @@ pub fn compare(report: &mut Report) {
     let answers = [
         (load(&twin_to(26, &[])), "the file ends where a record is due or inside one"),
         (load(&twin_but(0, 0)), "the file has a mark that is not due there"),
-        (load(&twin_but(2, 11)), "the file has n, m, p or k outside its bounds"),
+        (load(&twin_but(2, 11)), "the network has n, m, p or k outside its bounds"),
         (load(&twin_but(14, 2)), "the file has a fan-in that is not an earlier signal"),
         (load(&twin_but(21, 1)), "the file lists a fan-in twice in one gate"),
         (load(&twin_but(9, 4)), "the file has a bit past the end of a table or excluded set"),
@@ -33,6 +37,8 @@ pub fn compare(report: &mut Report) {
         (board.verdict(&[(22, 0)]), "the replacement changes output 2 at pattern 7"),
         (Err(Refusal::ListsUnequal), "there are not as many gates as tables"),
         (board.verdict(&[(14, 0), (22, 0), (14, 0)]), "a gate is named a second time"),
+        (read_blif(b".model board\n"), "the text has a line outside the subset, or ends before .end"),
+        (read_blif(b".model board\n.inputs a a\n"), "the text has a name that is unknown, or stands twice"),
     ];
     for (answer, want) in answers {
         let error = answer.err().map(Box::<dyn Error>::from);

@@ -197,12 +197,13 @@ fn first_difference<T: PartialEq + std::fmt::LowerHex>(
     })
 }
 
-/// What led to a call: the seed's case, the file, and what was done before.
+/// What led to a call: the seed's case, the file or the text, and what was done before.
 #[derive(Clone, Default)]
 pub struct Case {
     pub number: usize,
     pub file: Vec<u8>,
     pub before: Vec<String>,
+    is_text: bool,
 }
 
 impl Case {
@@ -210,7 +211,14 @@ impl Case {
         Case {
             number,
             file: file.to_vec(),
-            before: Vec::new(),
+            ..Case::default()
+        }
+    }
+
+    pub fn text(number: usize, text: &[u8]) -> Case {
+        Case {
+            is_text: true,
+            ..Case::new(number, text)
         }
     }
 
@@ -227,8 +235,12 @@ impl Case {
 
 impl std::fmt::Display for Case {
     fn fmt(&self, f: &mut std::fmt::Formatter<'_>) -> std::fmt::Result {
-        let bytes: Vec<String> = self.file.iter().map(|b| format!("{b:02X}")).collect();
-        writeln!(f, "case {}, file {}", self.number, bytes.join(" "))?;
+        if self.is_text {
+            writeln!(f, "case {}, text {}", self.number, self.file.escape_ascii())?;
+        } else {
+            let bytes: Vec<String> = self.file.iter().map(|b| format!("{b:02X}")).collect();
+            writeln!(f, "case {}, file {}", self.number, bytes.join(" "))?;
+        }
         self.before
             .iter()
             .try_for_each(|what| writeln!(f, "{what}"))

@@ -1,7 +1,8 @@
 //! Buffers that are too short: for every call and every buffer the lengths from none to one short, then as long as needed
 //! and longer. Every word and byte of every buffer is compared.
 
-use crate::call::{filling, Call, Lent, ROOM};
+use crate::blif;
+use crate::call::{filling, Call, Lent, BYTES, ROOM};
 use crate::damage;
 use crate::engine::RAW;
 use crate::random::{self, Random};
@@ -28,7 +29,7 @@ pub fn compare(report: &mut Report, seed: u64, cases: usize) {
         };
         short.compare();
     });
-    report.require_answers((0..=9).chain(11..=16));
+    report.require_answers((0..=9).chain(11..=18));
 }
 
 /// Verdicts and exchanges, whose answers differ most.
@@ -40,7 +41,7 @@ fn judges(call: &Call) -> bool {
 fn needed(call: &Call, s: &State, file: &[u8]) -> (usize, usize) {
     let (m, patterns) = (s.loaded.m(), s.loaded.patterns());
     match call {
-        Call::Load => (0, 0),
+        Call::Load | Call::ReadBlif => (0, 0),
         Call::Tables { .. } => (0, 4),
         Call::AllTables => (0, 4 * m),
         Call::PatternSets => (0, 2 * m * (patterns / 64).max(1)),
@@ -48,6 +49,10 @@ fn needed(call: &Call, s: &State, file: &[u8]) -> (usize, usize) {
         Call::Verdict { .. } => (0, 2),
         Call::Exchange { .. } => (0, 1),
         Call::Write => (reference::write(&s.current).len(), 1),
+        Call::WriteBlif => {
+            let text = reference::write_blif(&s.current);
+            text.map_or((0, 0), |text| (text.len(), 1))
+        }
         Call::Listing => (reference::listing(file).len(), 1),
     }
 }
@@ -73,8 +78,10 @@ impl Short<'_> {
             self.others(call, &session, &state);
         }
         self.others(&Call::Listing, &Lent::file(&file), &state);
-        self.load(&file);
-        self.load_damaged(&file);
+        self.fresh(&Call::Load, &file);
+        let text = blif::text(&mut self.rng, &file);
+        self.fresh(&Call::ReadBlif, &text);
+        self.damaged(&file);
     }
 
     /// The lengths to try of a buffer that needs so many elements.
@@ -105,7 +112,7 @@ impl Short<'_> {
         let (bytes, out) = needed(call, s, &lent.file);
         let with = |bytes, out| Lent::new(&lent.session, &lent.file, bytes, out);
         let lengths = self.lengths(out).into_iter();
-        lengths.for_each(|length| self.expect(call, &with(ROOM, length), length < out));
+        lengths.for_each(|length| self.expect(call, &with(bytes + 9, length), length < out));
         let lengths = self.lengths(bytes).into_iter();
         lengths.for_each(|length| self.expect(call, &with(length, out), length < bytes));
     }
@@ -115,33 +122,43 @@ impl Short<'_> {
         let words = [s.words(), filling(9)].concat();
         for length in self.lengths(WORDS) {
             let short = length < WORDS;
-            let room = if short {
-                *self.rng.pick(&[0, 1, ROOM])
+            let (bytes, out) = if short {
+                *self.rng.pick(&[(0, 0), (1, 1), (BYTES, ROOM)])
             } else {
-                ROOM
+                (BYTES, ROOM)
             };
             let session = match short && self.rng.chance(2) {
                 true => filling(length),
                 false => words[..length].to_vec(),
             };
-            self.expect(call, &Lent::new(&session, &[], room, room), short);
+            self.expect(call, &Lent::new(&session, &[], bytes, out), short);
         }
     }
 
-    fn load(&mut self, file: &[u8]) {
+    /// A call that makes a session of a file or a text.
+    fn fresh(&mut self, call: &Call, bytes: &[u8]) {
         for length in self.lengths(WORDS) {
-            let lent = Lent::new(&filling(length), file, 0, 0);
-            self.expect(&Call::Load, &lent, length < WORDS);
+            let lent = Lent::new(&filling(length), bytes, 0, 0);
+            self.expect(call, &lent, length < WORDS);
         }
     }
 
-    /// Load tests the file first, then the session's length.
-    fn load_damaged(&mut self, file: &[u8]) {
+    /// The file or the text is tested first, then the session's length.
+    fn damaged(&mut self, file: &[u8]) {
         for number in 1..=8 {
-            if let Some(bad) = damage::targeted(&mut self.rng, file, number) {
-                let length = self.rng.within(0, WORDS - 1);
-                self.expect(&Call::Load, &Lent::new(&filling(length), &bad, 0, 0), false);
-            }
+            let bad = damage::targeted(&mut self.rng, file, number);
+            self.refused(&Call::Load, bad);
+        }
+        for number in [3, 17, 18] {
+            let bad = blif::refused_text(&mut self.rng, file, number);
+            self.refused(&Call::ReadBlif, bad);
+        }
+    }
+
+    fn refused(&mut self, call: &Call, bytes: Option<Vec<u8>>) {
+        let length = self.rng.within(0, WORDS - 1);
+        if let Some(bytes) = bytes {
+            self.expect(call, &Lent::new(&filling(length), &bytes, 0, 0), false);
         }
     }
 }

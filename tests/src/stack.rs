@@ -1,6 +1,7 @@
 //! The stack that the header grants a call: every call on the largest networks, in a thread that has no more. One that takes
 //! more ends this program.
 
+use crate::blif;
 use crate::call::{Call, Lent};
 use crate::engine::RAW;
 use crate::random::{self, Random};
@@ -23,6 +24,8 @@ pub fn compare(report: &mut Report, seed: u64) {
         for call in [Call::Load, Call::Listing] {
             compare_call(report, &call, &Lent::file(&file), &case);
         }
+        let text = Lent::file(&blif::text(&mut rng, &file));
+        compare_call(report, &Call::ReadBlif, &text, &case);
     }
     report.require_answers([0, 15, 16]);
 }

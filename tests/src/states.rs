@@ -70,5 +70,6 @@ pub fn calls(rng: &mut Random, state: &State) -> Vec<Call> {
         user.verdict(),
         user.exchange(),
         Call::Write,
+        Call::WriteBlif,
     ]
 }

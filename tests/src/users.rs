@@ -15,6 +15,7 @@ pub fn calls(rng: &mut Random, fresh: &State) -> Vec<Call> {
         Call::PatternSets,
         Call::Hidden,
         Call::Write,
+        Call::WriteBlif,
     ]);
     list
 }
@@ -42,7 +43,7 @@ impl User<'_> {
             0..=4 => self.exchange(),
             5..=7 => self.verdict(),
             8 => Call::Tables { gate: self.gate() },
-            _ => Call::Write,
+            _ => self.rng.pick(&[Call::Write, Call::WriteBlif]).clone(),
         }
     }
 

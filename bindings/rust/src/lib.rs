@@ -30,9 +30,7 @@ const MOST_TEXT: usize = 1042;
 
 /// The listing of a file; of one that would not load, the line `refused N`.
 pub fn listing(file: &[u8]) -> String {
-    let (mut text, mut length) = (vec![0; MOST_TEXT], [0; 1]);
-    let number = raw::listing(file, &mut text, &mut length);
-    assert_eq!(number, 0, "there is room for any listing");
-    text.truncate(length[0] as usize);
+    let text = session::filled(MOST_TEXT, |text, length| raw::listing(file, text, length));
+    let text = text.expect("there is room for any listing");
     String::from_utf8(text).expect("a listing is ASCII")
 }

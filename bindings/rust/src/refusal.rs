@@ -10,7 +10,7 @@ pub enum Refusal {
     Truncated,
     /// 2: the mark is not due there.
     UnexpectedMark,
-    /// 3: n, m, p or k outside its bounds.
+    /// 3: n, m, p or k outside its bounds; in a text that goes out, with the copies among the gates.
     OutOfBounds,
     /// 4: a fan-in that is not an earlier signal.
     FaninNotEarlier,
@@ -46,6 +46,10 @@ pub enum Refusal {
     ListsUnequal,
     /// 16: a verdict names a gate a second time.
     GateRepeated,
+    /// 17: a BLIF line outside the subset or out of order, or no line where one is due.
+    OutsideSubset,
+    /// 18: a name in a BLIF text that is unknown where used, defined twice, or listed twice in one line.
+    BadName,
 }
 
 impl Refusal {
@@ -72,11 +76,13 @@ impl Refusal {
             },
             15 => Refusal::ListsUnequal,
             16 => Refusal::GateRepeated,
+            17 => Refusal::OutsideSubset,
+            18 => Refusal::BadName,
             other => unreachable!("no call returns {other}"),
         })
     }
 
-    /// 1 to 16.
+    /// 1 to 18.
     pub fn number(&self) -> u64 {
         match self {
             Refusal::Truncated => 1,
@@ -95,6 +101,8 @@ impl Refusal {
             Refusal::Harm { .. } => 14,
             Refusal::ListsUnequal => 15,
             Refusal::GateRepeated => 16,
+            Refusal::OutsideSubset => 17,
+            Refusal::BadName => 18,
         }
     }
 }
@@ -105,7 +113,7 @@ impl fmt::Display for Refusal {
         let words = match self {
             Refusal::Truncated => "the file ends where a record is due or inside one",
             Refusal::UnexpectedMark => "the file has a mark that is not due there",
-            Refusal::OutOfBounds => "the file has n, m, p or k outside its bounds",
+            Refusal::OutOfBounds => "the network has n, m, p or k outside its bounds",
             Refusal::FaninNotEarlier => "the file has a fan-in that is not an earlier signal",
             Refusal::FaninRepeated => "the file lists a fan-in twice in one gate",
             Refusal::BitPastEnd => "the file has a bit past the end of a table or excluded set",
@@ -126,6 +134,8 @@ impl fmt::Display for Refusal {
             }
             Refusal::ListsUnequal => "there are not as many gates as tables",
             Refusal::GateRepeated => "a gate is named a second time",
+            Refusal::OutsideSubset => "the text has a line outside the subset, or ends before .end",
+            Refusal::BadName => "the text has a name that is unknown, or stands twice",
         };
         f.write_str(words)
     }

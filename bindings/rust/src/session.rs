@@ -7,6 +7,8 @@ pub const SESSION_WORDS: usize = 427;
 
 /// Bytes of the longest file that loads.
 const MOST_FILE: usize = 519;
+/// Enough for any BLIF text that goes out.
+const MOST_BLIF: usize = 5663;
 const MOST_GATES: usize = 40;
 /// Words of a set of patterns with ten inputs.
 const MOST_SET: usize = 16;
@@ -42,15 +44,24 @@ pub struct PatternSets {
 impl Session {
     /// Reads a network file. Refusals 1 to 8.
     pub fn load(file: &[u8]) -> Result<Session, Refusal> {
+        Session::read(raw::load, file)
+    }
+
+    /// Reads a BLIF text of the subset that `include/tusqirma.h` describes, with nothing excluded. Refusals 17, 18, 3.
+    pub fn read_blif(text: &[u8]) -> Result<Session, Refusal> {
+        Session::read(raw::read_blif, text)
+    }
+
+    fn read(call: fn(&[u8], &mut [u64]) -> u64, bytes: &[u8]) -> Result<Session, Refusal> {
         let mut words = Box::new([0; SESSION_WORDS]);
-        Refusal::of(raw::load(file, &mut words[..]), &[])?;
+        Refusal::of(call(bytes, &mut words[..]), &[])?;
         Ok(Session { words })
     }
 
     /// A session kept elsewhere as words. Where they hold no network, every call on it is refused with 10.
     ///
     /// Open tables are taken as they stand, so the promise of [`exchange`](Session::exchange) on outputs is about words
-    /// that a load and exchanges gave.
+    /// that a load or a BLIF text and exchanges gave.
     pub fn from_words(words: [u64; SESSION_WORDS]) -> Session {
         Session {
             words: Box::new(words),
@@ -105,8 +116,8 @@ impl Session {
 
     /// Sets the current table of a gate, where it differs from the loaded one at open entries only. Refusals 10, 11, 12, 13.
     ///
-    /// In a session that a load and exchanges gave, every output on every pattern not excluded stays that of the loaded
-    /// network.
+    /// In a session that a load or a BLIF text and exchanges gave, every output on every pattern not excluded stays that of
+    /// the loaded network.
     pub fn exchange(&mut self, gate: usize, table: u64) -> Result<(), Refusal> {
         let mut out = [0; 1];
         let number = raw::exchange(&mut self.words[..], gate, table, &mut out);
@@ -115,16 +126,35 @@ impl Session {
 
     /// The network with its current tables, as a file. Refusal 10.
     pub fn write(&self) -> Result<Vec<u8>, Refusal> {
-        let (mut file, mut length) = (vec![0; MOST_FILE], [0; 1]);
-        Refusal::of(raw::write(&self.words[..], &mut file, &mut length), &[])?;
-        file.truncate(length[0] as usize);
-        Ok(file)
+        filled(MOST_FILE, |file, length| {
+            raw::write(&self.words[..], file, length)
+        })
+    }
+
+    /// The network with its current tables, as BLIF; excluded sets do not go out. An output that repeats an earlier one or
+    /// is an input gets a gate that copies it, behind all others. Refusals 10, and 3 where these make more than 40 gates.
+    pub fn write_blif(&self) -> Result<String, Refusal> {
+        let text = filled(MOST_BLIF, |text, length| {
+            raw::write_blif(&self.words[..], text, length)
+        })?;
+        Ok(String::from_utf8(text).expect("a BLIF text is ASCII"))
     }
 
     /// Of a session that was not refused with 10.
     fn gate_count(&self) -> usize {
         self.words[1] as usize
     }
+}
+
+/// The bytes that a call puts, where there is room for so many.
+pub(crate) fn filled(
+    most: usize,
+    call: impl FnOnce(&mut [u8], &mut [u64]) -> u64,
+) -> Result<Vec<u8>, Refusal> {
+    let (mut bytes, mut length) = (vec![0; most], [0; 1]);
+    Refusal::of(call(&mut bytes, &mut length), &[])?;
+    bytes.truncate(length[0] as usize);
+    Ok(bytes)
 }
 
 impl Tables {

@@ -1,5 +1,6 @@
 //! What each call answers and leaves in the buffers lent to it.
 
+use super::blif::{read_blif, write_blif};
 use super::file::{demand, load, write};
 use super::listing::listing;
 use super::network::{bit, words_of, Network};
@@ -9,7 +10,8 @@ use crate::call::{Call, Lent};
 /// The number of the answer; the buffers are left as the call leaves them.
 pub fn call(call: &Call, lent: &mut Lent) -> u64 {
     let answer = match call {
-        Call::Load => load_into(lent),
+        Call::Load => fresh_into(lent, load),
+        Call::ReadBlif => fresh_into(lent, read_blif),
         Call::Tables { gate } => tables(lent, *gate),
         Call::AllTables => all_tables(lent),
         Call::PatternSets => pattern_sets(lent),
@@ -17,6 +19,7 @@ pub fn call(call: &Call, lent: &mut Lent) -> u64 {
         Call::Verdict { gates, tables } => verdict(lent, gates, tables),
         Call::Exchange { gate, table } => exchange(lent, *gate, *table),
         Call::Write => write_into(lent),
+        Call::WriteBlif => write_blif_into(lent),
         Call::Listing => listing_into(lent),
     };
     answer.err().unwrap_or(0)
@@ -29,8 +32,8 @@ fn lay<T: Copy>(buffer: &mut [T], items: &[T]) -> Result<(), u64> {
     Ok(())
 }
 
-fn load_into(lent: &mut Lent) -> Result<(), u64> {
-    let network = load(&lent.file)?;
+fn fresh_into(lent: &mut Lent, read: fn(&[u8]) -> Result<Network, u64>) -> Result<(), u64> {
+    let network = read(&lent.file)?;
     lay(&mut lent.session, &State::fresh(network).words())
 }
 
@@ -121,6 +124,12 @@ fn exchange(lent: &mut Lent, gate: usize, table: u64) -> Result<(), u64> {
 fn write_into(lent: &mut Lent) -> Result<(), u64> {
     let s = State::read(&lent.session)?;
     lay_with_length(lent, &write(&s.current))
+}
+
+/// 3 before any 9.
+fn write_blif_into(lent: &mut Lent) -> Result<(), u64> {
+    let s = State::read(&lent.session)?;
+    lay_with_length(lent, write_blif(&s.current)?.as_bytes())
 }
 
 fn listing_into(lent: &mut Lent) -> Result<(), u64> {
