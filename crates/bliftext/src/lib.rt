@@ -59,14 +59,14 @@ pub fn find(s: &[u8], at: usize, c: Class) -> usize
     requires { ⌜ at ≤ length (now s) ⌝ }
     ensures { λ r. ⌜ (r ≡ at + length (before (inClass c) (drop at (now (s .entry))))) × (r ≤ length (now (s .entry))) ⌝ }
 {
-    let mut i = at;
-    while i < s.len() {
-        if is(c, s[i]) {
-            return i;
+    let mut p = at;
+    while p < s.len() {
+        if is(c, s[p]) {
+            return p;
         }
-        i += 1;
+        p += 1;
     }
-    i
+    p
 }
 
 // Whether two words are the same.

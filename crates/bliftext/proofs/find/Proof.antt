@@ -11,10 +11,10 @@ use Rattle.bliftext.proofs.find.Statement.{statement}
 use Rattle.bliftext.proofs.find.Tie as tie
 
 abbrev Inv-loop : tie.InvT-loop
-Inv-loop s at c i₀ i = (at ≤ i) × (i ≤ length s) × (i + length (before (inClass c) (drop i s)) ≡ at + length (before (inClass c) (drop at s)))
+Inv-loop s at c p₀ p = (at ≤ p) × (p ≤ length s) × (p + length (before (inClass c) (drop p s)) ≡ at + length (before (inClass c) (drop at s)))
 
 abbrev μ-loop : tie.MeasureT-loop
-μ-loop s at c i₀ i = length s - i
+μ-loop s at c p₀ p = length s - p
 
 loop-holds : tie.Need-loop-holds Inv-loop μ-loop
 loop-holds c = (omega arith, omega arith, refl)
@@ -26,19 +26,19 @@ is-requires : tie.Need-is-requires Inv-loop μ-loop
 is-requires c κs = search needs
 
 returns : tie.Need-returns Inv-loop μ-loop
-returns c = let h = c .before .before .before .before .loop in (found (inClass (c .before .before .before .before .before .before .args .c)) _ (h .i) (omega arith) (sym (c .before .is .ensures) ∙ c .if1 .taken) ∙ h .inv .2, omega arith)
+returns c = let h = c .before .before .before .before .loop in (found (inClass (c .before .before .before .before .before .before .args .c)) _ (h .p) (omega arith) (sym (c .before .is .ensures) ∙ c .if1 .taken) ∙ h .inv .2, omega arith)
 
-add-i : tie.Need-add-i Inv-loop μ-loop
-add-i c = omega arith
+add-p : tie.Need-add-p Inv-loop μ-loop
+add-p c = omega arith
 
 loop-less : tie.Need-loop-less Inv-loop μ-loop
 loop-less c = omega arith
 
 loop-again : tie.Need-loop-again Inv-loop μ-loop
-loop-again c = let h = c .before .before .before .before .loop in (omega arith, omega arith, passed (inClass (c .before .before .before .before .before .before .args .c)) _ (h .i) (omega arith) (sym (c .before .is .ensures) ∙ c .if1 .left) ∙ h .inv .2)
+loop-again c = let h = c .before .before .before .before .loop in (omega arith, omega arith, passed (inClass (c .before .before .before .before .before .before .args .c)) _ (h .p) (omega arith) (sym (c .before .is .ensures) ∙ c .if1 .left) ∙ h .inv .2)
 
 returns-2 : tie.Need-returns-2 Inv-loop μ-loop
-returns-2 c = let h = c .before .loop in (ended (inClass (c .before .before .before .args .c)) _ (h .i) (omega arith) ∙ h .inv .2, omega arith)
+returns-2 c = let h = c .before .loop in (ended (inClass (c .before .before .before .args .c)) _ (h .p) (omega arith) ∙ h .inv .2, omega arith)
 
 pub find-spec : {M : Type 1} → statement M
 find-spec =
@@ -50,7 +50,7 @@ find-spec =
     shared-slice-read-is
     is-requires
     returns
-    add-i
+    add-p
     loop-less
     loop-again
     returns-2)
