@@ -133,7 +133,7 @@ uint64_t tusqirma_load(const uint8_t *file, size_t file_len, uint64_t *session, 
  *   .outputs NAME ..   1 to 8 names, which are looked up at .end
  *   .names NAME ..     1 to 40 times: the names of 1 to 4 fan-ins, known by then, and of the gate. Its rows follow: a 0, 1
  *                      or - for each fan-in, the first leftmost, and behind them a 1, in all rows of the gate, or a 0.
- *                      The entries that some row answers have that value, the others the other; without rows all are 0.
+ *                      The entries that some row covers have that value, the others the other; without rows all are 0.
  *   .end               nothing but blank lines and comments behind it
  */
 uint64_t tusqirma_read_blif(const uint8_t *text, size_t text_len, uint64_t *session, size_t session_len);

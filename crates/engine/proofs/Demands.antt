@@ -41,7 +41,7 @@ use Rattle.bliftrip.proofs.Trip.{blif-trip}
 use Rattle.bliftrip.proofs.Length.{blif-length, blif-room}
 use Rattle.bliftrip.proofs.Covers.{blif-cover}
 use Rattle.bliftrip.proofs.Gives.{text-fresh, text-shaped}
-use Rattle.bliftrip.proofs.SameWords.{blif-words, blif-fresh}
+use Rattle.bliftrip.proofs.SameWords.{blif-words, blif-file, blif-fresh}
 use Rattle.bliftrip.proofs.Ends.{read-by, copies-by}
 use Rattle.engine.specs.Demands.{Ends, Demand1, allInPlace, Changes, Judged, Reached, Demand2, Demand3}
 use Rattle.engine.proofs.Outcomes.{file, Among, ends, tests-end, read-among}
@@ -175,6 +175,7 @@ demand2 = record {
   blifTrip = blif-trip;
   blifCover = blif-cover;
   blifLoads = blif-words;
+  blifFile = blif-file;
   blifFresh = blif-fresh;
   blifReached = λ text s rs reads. after-reached s (text-fresh text s reads) rs (text-shaped text s reads);
 }

@@ -32,7 +32,7 @@ use Rattle.network.specs.Sessions.{after, Demand3Of, NoHarm, FirstHarm, Rule4Of
 use Rattle.network.specs.Sessions as sessions
 use Rattle.blif.specs.Read.{readBlif, readBlifOf}
 use Rattle.blif.specs.Write.{blifText, writeBlifOf}
-use Rattle.bliftrip.specs.Trip.{BlifTrip, BlifLength, BlifRoom, BlifCover, BlifWords, BlifFresh}
+use Rattle.bliftrip.specs.Trip.{BlifTrip, BlifLength, BlifRoom, BlifCover, BlifWords, BlifFile, BlifFresh}
 
 -- ## Demand 1: for every file, buffer, table and session state, a call ends in one of the listed outcomes, or in a numbered refusal
 -- that changes neither state nor lent buffer
@@ -157,8 +157,9 @@ pub record Demand2 : Type 0 where
   pub blifTrip : BlifTrip
   -- a cover means what its rows say, entry by entry
   pub blifCover : BlifCover
-  -- the session of a text is the one that its own file loads, so that all that is said above of a load holds of it
+  -- the session of a text is the one that its own file loads, which is made of bytes: so all that is said above of a load holds of it
   pub blifLoads : BlifWords
+  pub blifFile : BlifFile
   -- nothing is excluded in it, and demand 3, rule 4, open inside full and the bridge of several gates hold of it
   pub blifFresh : BlifFresh
   pub blifReached : (text : List ℕ) (s : Session) (rs : List Replacement) → readBlifOf text ≡ loadDone s → Reached s (after s rs)
