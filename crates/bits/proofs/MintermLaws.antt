@@ -1,5 +1,5 @@
 -- Minterm words: one word more, all entries' words at once, and the minterm that is left where no word is free. Assumes nothing.
-use mathlib.Core.Path.{_≡_, sym, ap, ap₂, _∙_, subst}
+use mathlib.Core.Path.{_≡_, refl, sym, ap, ap₂, _∙_, subst}
 use mathlib.Core.Bool.{Bool, true, false, not, _&&_, _||_, Bool·beq}
 use mathlib.Core.List.{List, _∷_}
 use Prim.Native.Nat.{ℕ, _+_, _-_, _*_, _^_, _<_}
@@ -127,3 +127,30 @@ minterms-more ws fs keep l₀ l r size nv es flip split so-far t h b hb = go (de
     go (no f) =
         let e : 2 ^ r + (t - 2 ^ r) ≡ t = omega arith in
         subst goal e (upper (t - 2 ^ r) (omega (arith, pow-add 2 r 1)))
+
+-- one word more, in two: the entries with it 0 and those with it 1, each tested at the places of keep that have it so
+and-turn : (a p g : Bool) → ((a && p) && g) ≡ (a && (g && p))
+and-turn true p true = and-true p
+and-turn true true false = refl
+and-turn true false false = refl
+and-turn false p g = refl
+
+module _ (ws fs : List ℕ) (keep r t b : ℕ) (h : t < 2 ^ r) where
+  own-place : (s : ℕ) (x : Bool) → bit s b ≡ Bool·beq (bit (getD ws r 0) b) x
+      → (bit (bitAnd keep (bitOr (getD fs r 0) s)) b && gives r ws fs t b) ≡ (bit keep b && (gives r ws fs t b && (bit (getD fs r 0) b || Bool·beq (bit (getD ws r 0) b) x)))
+  own-place s x e =
+      ap (λ (c : Bool). c && gives r ws fs t b) (bit-and keep (bitOr (getD fs r 0) s) b ∙ ap (λ (c : Bool). bit keep b && c) (bit-or (getD fs r 0) s b ∙ ap (λ (c : Bool). bit (getD fs r 0) b || c) e))
+      ∙ and-turn (bit keep b) (bit (getD fs r 0) b || Bool·beq (bit (getD ws r 0) b) x) (gives r ws fs t b)
+
+  pub lower-half : (nv : ℕ) → bit nv b ≡ not (bit (getD ws r 0) b)
+      → (bit (bitAnd keep (bitOr (getD fs r 0) nv)) b && gives r ws fs t b) ≡ (bit keep b && gives (r + 1) ws fs t b)
+  lower-half nv flip =
+      own-place nv false (flip ∙ beq-false (bit (getD ws r 0) b))
+      ∙ ap (λ (x : Bool). bit keep b && (gives r ws fs t b && (bit (getD fs r 0) b || Bool·beq (bit (getD ws r 0) b) x))) (sym (bit-above t r r h (omega arith)))
+      ∙ rw add-one
+
+  pub upper-half : (bit (bitAnd keep (bitOr (getD fs r 0) (getD ws r 0))) b && gives r ws fs t b) ≡ (bit keep b && gives (r + 1) ws fs (2 ^ r + t) b)
+  upper-half =
+      own-place (getD ws r 0) true (beq-true (bit (getD ws r 0) b))
+      ∙ ap₂ (λ (g x : Bool). bit keep b && (g && (bit (getD fs r 0) b || Bool·beq (bit (getD ws r 0) b) x))) (sym (gives-below ws fs r t b)) (sym (own-bit r t h))
+      ∙ rw add-one

@@ -11,7 +11,7 @@ use lib.ListN.{length, getD, set, length-append, List·getD-append}
 use lib.Pow.{pow-mono}
 use lib.Seq.{getD-at, getD-set-same, getD-set-other}
 use borrow.Author.Tests.{eq-eqb, ne-eqb}
-use Rattle.bits.specs.Bounds.{smallFanins, smallWords}
+use Rattle.bits.specs.Bounds.{gatePlaces, smallFanins, smallWords}
 use Rattle.bits.specs.Range.{num, every, any, places, upFrom}
 use Rattle.bits.specs.Bit.{bit, number, tableOf, column}
 use Rattle.bits.proofs.BitLaws.{bit-zero, some-bit}
@@ -193,6 +193,10 @@ module _ (n : ℕ) (p : ℕ → Bool) (acc : ℕ) (so-far : acc ≡ tableOf n p)
 -- there is a word for each entry, and for each set of fan-ins, of a small gate
 pub small-words : (k : ℕ) → k ≤ smallFanins → 2 ^ k ≤ smallWords
 small-words k h = pow-mono {j = smallFanins} h
+
+-- and a bit of a word for each entry of any gate
+pub entries-most : (k : ℕ) → k ≤ gatePlaces → 2 ^ k ≤ 64
+entries-most k h = pow-mono {j = gatePlaces} h
 
 -- one turn of a loop that fills an array from the front
 pub filled : (l : List ℕ) (p : ℕ → ℕ) (i v : ℕ) → i < length l → ((q : ℕ) → q < i → getD l q 0 ≡ p q) → v ≡ p i

@@ -1,12 +1,12 @@
 -- What a load gives passes refusal 10's test: what has been read so far passes it, record after record. Assumes nothing.
 use mathlib.Core.Path.{_≡_, refl, sym, ap, _∙_}
-use mathlib.Core.Bool.{cond}
+use mathlib.Core.Bool.{Bool, cond, _&&_}
 use mathlib.Core.List.{List, [], _∷_}
 use Prim.Native.Nat.{ℕ, zero, suc, _+_, _*_, _-_, _^_, _≤_, _<_}
 use native.Mathlib.Omega.{arith}
 use native.Mathlib.Nat.{min-le-left, pow-suc, pow-le-pow-right}
 use native.Mathlib.Decide.{decLt}
-use lib.Dec.{leb, ltb}
+use lib.Dec.{leb, ltb, eqb}
 use lib.ListN.{length, getD, take, drop, set, replicate, length-take, getD-replicate, List·getD-eq-default}
 use lib.Pow.{pow-pos}
 use lib.Seq.{getD-drop, getD-take, length-take-le, getD-set-same, getD-set-other}
@@ -21,13 +21,13 @@ use Rattle.network.specs.declared.Answer.the-variants.{Done}
 use Rattle.network.specs.Bounds.{mostGates, mostOutputs, mostFanins, excludedWords}
 use Rattle.network.specs.Compatible.{openTable, openTables}
 use Rattle.network.specs.Flat.{loadedNet, currentNet}
-use Rattle.network.specs.Tests.{refuseIf, countTest, faninsTest, widthTest, excludedTest, outputTest}
+use Rattle.network.specs.Tests.{refuseIf, mark, countTest, rangeTest, faninsTest, widthTest, excludedTest, outputTest}
 use Rattle.network.specs.State.{arityOf, faninsOf, gateFault, outputFault, stateFault}
 use Rattle.network.specs.Valid.{Sized, Shaped, Narrow}
 use Rattle.network.specs.Load as load
-use Rattle.network.specs.Load.{started, loadDone, littleEndian, withOutput, outputTests, outputRecord, readOutputs, faninsIn, tableIn, afterFanins, withGate, gateRecord, readGates, setBytes, wordsFrom, excludedIn, withExcluded, isExcluded, excludedTests, excludedRecord, readBody, headerTests, headerRecord, readOf, opened, loadOf}
+use Rattle.network.specs.Load.{started, loadDone, littleEndian, withOutput, outputTests, outputRecord, readOutputs, faninsIn, tableIn, afterFanins, withGate, formOf, gateRecord, readGates, setBytes, wordsFrom, excludedIn, withExcluded, isExcluded, excludedTests, excludedRecord, readBody, headerTests, headerRecord, readOf, opened, loadOf}
 use Rattle.network.proofs.Fresh.{Fresh}
-use Rattle.network.proofs.TestLaws.{clear-e, each-i, short-e, count-e, width-i, output-e, went}
+use Rattle.network.proofs.TestLaws.{clear-e, each-i, short-e, count-e, count-i, range-e, width-i, output-e, went}
 use Rattle.network.proofs.Valid.{GateValid, valid-i}
 use Rattle.network.proofs.Slots.{sized-started, sized-gate, sized-output, GateIs, gate-new, gate-kept, fanin-bytes, narrow-started, narrow-gate, narrow-output}
 
@@ -46,6 +46,13 @@ gate-valid t i k fs lt ct is a b c d =
       loaded-fine = rw (ar, is .loaded-is) c;
       current-fine = rw (ar, is .current-is) d;
     }
+
+-- either form has one to six fan-ins
+pub form-fine : (rest : List ℕ) (k : ℕ) → rangeTest (formOf rest .least) (formOf rest .most) k ≡ Done → countTest mostFanins k ≡ Done
+form-fine rest k h =
+    by-cases (leb 2 (length rest) && eqb (mark rest) 0x4E48)
+    (λ e. let r = range-e 5 6 k (rw e at h) in count-i mostFanins k (omega arith) (omega arith))
+    (λ e. let r = range-e 1 4 k (rw e at h) in count-i mostFanins k (omega arith) (omega arith))
 
 -- ## What holds once g gates and j outputs have been read from the bytes
 
@@ -136,14 +143,15 @@ module _ (bytes : List ℕ) where
     gates-sound zero g t rest e s h = let q : g ≡ t .m = omega arith in outputs-sound (t .p) 0 t rest (omega arith) (rw q at s) h
     gates-sound (suc c) g t rest e s h =
         let k = getD rest 2 0 in
+        let f = formOf rest in
         let t' = withGate t g k (faninsIn rest) (tableIn rest) in
-        let w = went (gateRecord (t .n + g) rest) (readGates c (g + 1) t' (drop 2 (afterFanins rest))) u h in
-        let q = clear-e (load.gateTests (t .n + g) rest) (w .0) in
-        let l = short-e (k + 2) (drop 3 rest) (q .1 .1 .1 .0) in
+        let w = went (gateRecord (t .n + g) rest) (readGates c (g + 1) t' (drop (f .bytes) (afterFanins rest))) u h in
+        let q = clear-e (load.gateTests f (t .n + g) rest) (w .0) in
+        let l = short-e (k + f .bytes) (drop 3 rest) (q .1 .1 .1 .0) in
         let len = length-take-le k (drop 3 rest) (omega arith) in
         let mb = count-e mostGates (t .m) (s .gates) in
-        gates-sound c (g + 1) t' (drop 2 (afterFanins rest)) (omega arith)
-        (gate-step t g k (faninsIn rest) (tableIn rest) (omega arith) len (q .1 .1 .0) (q .1 .1 .1 .1 .0) (q .1 .1 .1 .1 .1 .0) s) (w .1)
+        gates-sound c (g + 1) t' (drop (f .bytes) (afterFanins rest)) (omega arith)
+        (gate-step t g k (faninsIn rest) (tableIn rest) (omega arith) len (form-fine rest k (q .1 .1 .0)) (q .1 .1 .1 .1 .0) (q .1 .1 .1 .1 .1 .0) s) (w .1)
 
     words-sound : (n m p : ℕ) (ws rest : List ℕ) → countTest mostInputs n ≡ Done → countTest mostGates m ≡ Done → countTest mostOutputs p ≡ Done
         → excludedTest n ws ≡ Done → length ws ≡ excludedWords → (Bytes bytes → Wide ws)

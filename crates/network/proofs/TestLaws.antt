@@ -17,7 +17,7 @@ use Rattle.network.specs.declared.Refusal.{Refusal}
 use Rattle.network.specs.declared.Refusal.the-variants.{Truncated, OutOfBounds, FaninNotEarlier, BitPastEnd, NotASignal}
 use Rattle.network.specs.declared.Answer.{Answer}
 use Rattle.network.specs.declared.Answer.the-variants.{Done, Refused}
-use Rattle.network.specs.Tests.{refuseIf, orElse, first, lengthTest, mark, markTest, countTest, faninTest, faninsTest, widthTest, outputTest}
+use Rattle.network.specs.Tests.{refuseIf, orElse, first, lengthTest, mark, markTest, countTest, rangeTest, faninTest, faninsTest, widthTest, outputTest}
 use Rattle.network.specs.Load.{loadDone, onward}
 
 -- ## Answers
@@ -103,10 +103,18 @@ mark-i due rest h e = rw (le-ltb (length rest) 2 h, eq-eqb (mark rest) due e)
 
 -- ## 3, 6 and 7
 
+pub range-e : (least most x : ℕ) → rangeTest least most x ≡ Done → (least ≤ x) × (x ≤ most)
+range-e least most x h =
+    let e = kept (leb least x && leb x most) OutOfBounds h in
+    (leb-true least x (and-l (leb least x) (leb x most) e), leb-true x most (and-r (leb least x) (leb x most) e))
+
 pub count-e : (most x : ℕ) → countTest most x ≡ Done → (1 ≤ x) × (x ≤ most)
 count-e most x h =
     let e = kept (leb 1 x && leb x most) OutOfBounds h in
     (leb-true 1 x (and-l (leb 1 x) (leb x most) e), leb-true x most (and-r (leb 1 x) (leb x most) e))
+
+pub range-i : (least most x : ℕ) → least ≤ x → x ≤ most → rangeTest least most x ≡ Done
+range-i least most x a b = rw (le-leb least x a, le-leb x most b)
 
 pub count-i : (most x : ℕ) → 1 ≤ x → x ≤ most → countTest most x ≡ Done
 count-i most x a b = rw (le-leb 1 x a, le-leb x most b)

@@ -12,7 +12,7 @@ abbrev pub mostOutputs : ℕ
 mostOutputs = 8
 
 abbrev pub mostFanins : ℕ
-mostFanins = 4
+mostFanins = 6
 
 -- so many signals and, in one table, entries at the most
 abbrev pub mostSignals : ℕ
@@ -44,7 +44,7 @@ abbrev pub mostSetBytes : ℕ
 mostSetBytes = 2 ^ mostInputs / 8
 
 abbrev pub mostGateBytes : ℕ
-mostGateBytes = mostFanins + 5
+mostGateBytes = mostFanins + 11
 
 abbrev pub mostFileBytes : ℕ
 mostFileBytes = 5 + (2 + mostSetBytes) + mostGates * mostGateBytes + 3 * mostOutputs

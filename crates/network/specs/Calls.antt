@@ -3,7 +3,7 @@
 -- 13 or 14. Assumes nothing.
 use mathlib.Core.Bool.{Bool, not, cond, _&&_}
 use mathlib.Core.List.{List, [], _∷_, _++_}
-use Prim.Native.Nat.{ℕ, zero, suc, _+_, _-_, _^_}
+use Prim.Native.Nat.{ℕ, zero, suc, _+_, _-_, _^_, _/_, _%_}
 use lib.Dec.{eqb, ltb}
 use lib.ListN.{length, getD, set, replicate}
 use Rattle.bits.specs.declared.Found.{Found}
@@ -13,6 +13,7 @@ use Rattle.bits.specs.Bit.{bit, differs}
 use Rattle.bits.specs.Lists.{overwritten}
 use Rattle.network.specs.declared.Session.{Session}
 use Rattle.network.specs.declared.Exchanged.{Exchanged}
+use Rattle.network.specs.declared.Sdc.{Sdc}
 use Rattle.network.specs.declared.Tables.{Tables}
 use Rattle.network.specs.declared.TablesAnswer.{TablesAnswer}
 use Rattle.network.specs.declared.TablesAnswer.the-variants as tables
@@ -152,9 +153,13 @@ verdictOn s rs = verdictOf s (signals rs) (newTables rs)
 
 -- ## Tables of a gate. The open table is the one that the session holds
 
+-- the SDC has up to 128 entries: two words, lower entries first
+abbrev pub sdcWords : ℕ → Sdc
+sdcWords x = record { low = x % 2 ^ 64; high = x / 2 ^ 64 }
+
 abbrev pub gateTables : Session → ℕ → Tables
 gateTables s g = record {
-  sdc = sdc (currentNet s) g;
+  sdc = sdcWords (sdc (currentNet s) g);
   cdc = cdc (currentNet s) g;
   full = full (currentNet s) g;
   open_table = getD (s .open_tables) (g - s .n) 0;

@@ -18,7 +18,7 @@ use Rattle.network.specs.Load.{readOf, loadOf}
 use Rattle.network.specs.Write.{bytesOf}
 use Rattle.network.specs.Calls.{exchangeOf, verdictOn, harmTest, tablesOf, writeOf, writeAnswer}
 use Rattle.network.specs.Sessions.{after}
-use Rattle.network.specs.Examples.{twinBytes, twinSession, twinNet, chainBytes, chainSession, wideBytes, wideSession, wideNet, multiOutputBytes, multiOutputSession, multiOutputNet, freeing, tourFirst, tourSecond, tour, sumOfProducts, controlThree, controlFour, observe, segment, threeLines, noneComes, lastComes, zeroNever}
+use Rattle.network.specs.Examples.{twinBytes, twinSession, twinNet, chainBytes, chainSession, twoWordsBytes, twoWordsSession, twoWordsNet, multiOutputBytes, multiOutputSession, multiOutputNet, freeing, tourFirst, tourSecond, tour, sumOfProducts, controlThree, controlFour, observe, segment, threeLines, noneComes, lastComes, zeroNever}
 
 -- ## Words for the cases
 
@@ -149,16 +149,16 @@ neverGiven =
 
 -- ## More than 64 patterns
 
-abbrev pub wide : List (List ℕ × List ℕ)
-wide =
+abbrev pub twoWords : List (List ℕ × List ℕ)
+twoWords =
     -- loaded and written
-    (numbers (loadOf wideBytes .session), numbers wideSession)
-    ∷ (bytesOf wideSession, wideBytes)
+    (numbers (loadOf twoWordsBytes .session), numbers twoWordsSession)
+    ∷ (bytesOf twoWordsSession, twoWordsBytes)
     -- entry 3 comes at excluded patterns only; entry 2 comes at 64, which is excluded, and at 65
-    ∷ (cdc wideNet 7 ∷ full wideNet 7 ∷ openTable wideNet 7 ∷ [], 0x8 ∷ 0x8 ∷ 0x8 ∷ [])
-    ∷ (setOf wideNet (compatible wideNet 7) ∷ [], 0xFFFFFFFF080402018040201008040201 ∷ [])
-    ∷ (verdictSaid wideSession [] (to 7 0x0), [])
-    ∷ (verdictSaid wideSession [] (to 7 0xC), 14 ∷ 65 ∷ 0 ∷ [])
+    ∷ (cdc twoWordsNet 7 ∷ full twoWordsNet 7 ∷ openTable twoWordsNet 7 ∷ [], 0x8 ∷ 0x8 ∷ 0x8 ∷ [])
+    ∷ (setOf twoWordsNet (compatible twoWordsNet 7) ∷ [], 0xFFFFFFFF080402018040201008040201 ∷ [])
+    ∷ (verdictSaid twoWordsSession [] (to 7 0x0), [])
+    ∷ (verdictSaid twoWordsSession [] (to 7 0xC), 14 ∷ 65 ∷ 0 ∷ [])
     ∷ []
 
 -- ## More than one output
@@ -189,10 +189,10 @@ multiOutput =
 
 abbrev pub sizes : List (List ℕ × List ℕ)
 sizes =
-    (mostInputs ∷ mostGates ∷ mostOutputs ∷ mostFanins ∷ [], 10 ∷ 40 ∷ 8 ∷ 4 ∷ [])
-    ∷ (mostSignals ∷ mostEntries ∷ faninPlaces ∷ [], 50 ∷ 16 ∷ 240 ∷ [])
+    (mostInputs ∷ mostGates ∷ mostOutputs ∷ mostFanins ∷ [], 10 ∷ 40 ∷ 8 ∷ 6 ∷ [])
+    ∷ (mostSignals ∷ mostEntries ∷ faninPlaces ∷ [], 50 ∷ 64 ∷ 240 ∷ [])
     ∷ (rowWords ∷ excludedWords ∷ signalWords ∷ gateWords ∷ [], 16 ∷ 16 ∷ 800 ∷ 640 ∷ [])
-    ∷ (mostSetBytes ∷ mostGateBytes ∷ mostFileBytes ∷ [], 128 ∷ 9 ∷ 519 ∷ [])
+    ∷ (mostSetBytes ∷ mostGateBytes ∷ mostFileBytes ∷ [], 128 ∷ 17 ∷ 839 ∷ [])
     ∷ []
 
 -- ## Refusals

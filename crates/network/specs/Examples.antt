@@ -71,6 +71,28 @@ twoCopies = net 1 0 (g (0 ∷ []) 0x2 ∷ g (0 ∷ []) 0x2 ∷ g (1 ∷ 2 ∷ []
 abbrev pub threeCopies : Net
 threeCopies = net 1 0 (g (0 ∷ []) 0x2 ∷ g (0 ∷ []) 0x2 ∷ g (0 ∷ []) 0x2 ∷ g (1 ∷ 2 ∷ 3 ∷ []) 0xFE ∷ []) (4 ∷ [])
 
+-- six copies of the input, and their OR
+abbrev pub orSix : Net
+orSix =
+    net 1 0
+    (g (0 ∷ []) 0x2 ∷ g (0 ∷ []) 0x2 ∷ g (0 ∷ []) 0x2 ∷ g (0 ∷ []) 0x2 ∷ g (0 ∷ []) 0x2 ∷ g (0 ∷ []) 0x2 ∷ g (1 ∷ 2 ∷ 3 ∷ 4 ∷ 5 ∷ 6 ∷ []) 0xFFFFFFFFFFFFFFFE ∷ [])
+    (7 ∷ [])
+
+-- document 004's external don't cares whole: f over (a, c, d, X, Y), X = a + b, Y = ab, E = bcd
+abbrev pub controlFive : Net
+controlFive = net 4 0xC000 (g (0 ∷ 1 ∷ []) 0xE ∷ g (0 ∷ 1 ∷ []) 0x8 ∷ g (0 ∷ 2 ∷ 3 ∷ 4 ∷ 5 ∷ []) 0x96696996 ∷ []) (6 ∷ [])
+
+-- a gate with table t over six inputs, of which the patterns ex never come
+abbrev pub sixInputs : ℕ → ℕ → Net
+sixInputs ex t = net 6 ex (g (0 ∷ 1 ∷ 2 ∷ 3 ∷ 4 ∷ 5 ∷ []) t ∷ []) (6 ∷ [])
+
+-- a selector over six copied inputs: the last two choose one of the first four
+abbrev pub selector : Net
+selector =
+    net 6 0
+    (g (0 ∷ []) 0x2 ∷ g (1 ∷ []) 0x2 ∷ g (2 ∷ []) 0x2 ∷ g (3 ∷ []) 0x2 ∷ g (4 ∷ []) 0x2 ∷ g (5 ∷ []) 0x2 ∷ g (6 ∷ 7 ∷ 8 ∷ 9 ∷ 10 ∷ 11 ∷ []) 0xFF00F0F0CCCCAAAA ∷ [])
+    (12 ∷ [])
+
 -- ## Files and sessions
 
 abbrev pub twinBytes : List ℕ
@@ -122,18 +144,18 @@ abbrev pub zeroNever : Net
 zeroNever = loadedNet zeroNeverSession
 
 -- gate 7 is the AND of inputs 5 and 6; the patterns 96 to 127, at which it is 1, are excluded, and some of the others
-abbrev pub wideBytes : List ℕ
-wideBytes =
+abbrev pub twoWordsBytes : List ℕ
+twoWordsBytes =
     0x4E ∷ 0x49 ∷ 0x07 ∷ 0x01 ∷ 0x01
     ∷ 0x4E ∷ 0x58 ∷ 0x01 ∷ 0x02 ∷ 0x04 ∷ 0x08 ∷ 0x10 ∷ 0x20 ∷ 0x40 ∷ 0x80 ∷ 0x01 ∷ 0x02 ∷ 0x04 ∷ 0x08 ∷ 0xFF ∷ 0xFF ∷ 0xFF ∷ 0xFF
     ∷ 0x4E ∷ 0x47 ∷ 0x02 ∷ 0x05 ∷ 0x06 ∷ 0x08 ∷ 0x00
     ∷ 0x4E ∷ 0x4F ∷ 0x07 ∷ []
 
-abbrev pub wideSession : Session
-wideSession = held 7 1 1 (0x8040201008040201 ∷ 0xFFFFFFFF08040201 ∷ []) (2 ∷ []) (5 ∷ 6 ∷ []) (0x8 ∷ []) (0x8 ∷ []) (7 ∷ [])
+abbrev pub twoWordsSession : Session
+twoWordsSession = held 7 1 1 (0x8040201008040201 ∷ 0xFFFFFFFF08040201 ∷ []) (2 ∷ []) (5 ∷ 6 ∷ []) (0x8 ∷ []) (0x8 ∷ []) (7 ∷ [])
 
-abbrev pub wideNet : Net
-wideNet = loadedNet wideSession
+abbrev pub twoWordsNet : Net
+twoWordsNet = loadedNet twoWordsSession
 
 -- several outputs: one is an input, one is named twice, one feeds a gate too; gate 5 feeds nothing. Gates 2 and 3 copy input 0,
 -- gate 4 is their OR, gate 5 inverts input 1; pattern 2 is excluded
@@ -154,3 +176,25 @@ multiOutputSession =
 
 abbrev pub multiOutputNet : Net
 multiOutputNet = loadedNet multiOutputSession
+
+-- the network orSix
+abbrev pub orSixBytes : List ℕ
+orSixBytes =
+    0x4E ∷ 0x49 ∷ 0x01 ∷ 0x07 ∷ 0x01
+    ∷ 0x4E ∷ 0x47 ∷ 0x01 ∷ 0x00 ∷ 0x02 ∷ 0x00
+    ∷ 0x4E ∷ 0x47 ∷ 0x01 ∷ 0x00 ∷ 0x02 ∷ 0x00
+    ∷ 0x4E ∷ 0x47 ∷ 0x01 ∷ 0x00 ∷ 0x02 ∷ 0x00
+    ∷ 0x4E ∷ 0x47 ∷ 0x01 ∷ 0x00 ∷ 0x02 ∷ 0x00
+    ∷ 0x4E ∷ 0x47 ∷ 0x01 ∷ 0x00 ∷ 0x02 ∷ 0x00
+    ∷ 0x4E ∷ 0x47 ∷ 0x01 ∷ 0x00 ∷ 0x02 ∷ 0x00
+    ∷ 0x4E ∷ 0x48 ∷ 0x06 ∷ 0x01 ∷ 0x02 ∷ 0x03 ∷ 0x04 ∷ 0x05 ∷ 0x06 ∷ 0xFE ∷ 0xFF ∷ 0xFF ∷ 0xFF ∷ 0xFF ∷ 0xFF ∷ 0xFF ∷ 0xFF
+    ∷ 0x4E ∷ 0x4F ∷ 0x07 ∷ []
+
+abbrev pub orSixSession : Session
+orSixSession =
+    held 1 7 1 [] (1 ∷ 1 ∷ 1 ∷ 1 ∷ 1 ∷ 1 ∷ 6 ∷ []) (replicate (gatePlaces * 6) 0 ++ 1 ∷ 2 ∷ 3 ∷ 4 ∷ 5 ∷ 6 ∷ [])
+    (0x2 ∷ 0x2 ∷ 0x2 ∷ 0x2 ∷ 0x2 ∷ 0x2 ∷ 0xFFFFFFFFFFFFFFFE ∷ []) (0x2 ∷ 0x2 ∷ 0x2 ∷ 0x2 ∷ 0x2 ∷ 0x0 ∷ 0x00000000FFFFFFFE ∷ []) (7 ∷ [])
+
+-- a gate with table t over the first k of five inputs
+abbrev pub fiveInputs : ℕ → ℕ → Session
+fiveInputs k t = held 5 1 1 [] (k ∷ []) (0 ∷ 1 ∷ 2 ∷ 3 ∷ 4 ∷ []) (t ∷ []) (0 ∷ []) (5 ∷ [])

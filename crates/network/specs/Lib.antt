@@ -15,3 +15,4 @@ pub mod Lists
 pub mod Examples
 pub mod Cases
 pub mod ListCases
+pub mod RecordCases

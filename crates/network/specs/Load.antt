@@ -13,10 +13,10 @@ use Rattle.network.specs.declared.Refusal.{Refusal}
 use Rattle.network.specs.declared.Refusal.the-variants.{TrailingBytes}
 use Rattle.network.specs.declared.Answer.{Answer}
 use Rattle.network.specs.declared.Answer.the-variants.{Done, Refused}
-use Rattle.network.specs.Bounds.{mostGates, mostOutputs, mostFanins, faninPlaces, excludedWords}
+use Rattle.network.specs.Bounds.{mostGates, mostOutputs, faninPlaces, excludedWords}
 use Rattle.network.specs.Compatible.{openTables}
 use Rattle.network.specs.Flat.{loadedNet}
-use Rattle.network.specs.Tests.{refuseIf, first, lengthTest, mark, markTest, countTest, faninsTest, widthTest, excludedTest, outputTest}
+use Rattle.network.specs.Tests.{refuseIf, first, lengthTest, mark, markTest, countTest, rangeTest, faninsTest, widthTest, excludedTest, outputTest}
 
 -- the session that holds nothing but the counts
 abbrev pub started : ℕ → ℕ → ℕ → Session
@@ -79,7 +79,8 @@ readOutputs (suc c) i t rest =
     onward (outputRecord (t .n + t .m) rest)
     (readOutputs c (i + 1) (withOutput t i (getD rest 2 0)) (drop 3 rest))
 
--- ## `4E 47`: k, then k signals, then a two-byte table
+-- ## A gate: k, then k signals, then a table. `4E 47` has one to four signals and a two-byte table; `4E 48`, of request Five of 02, five or six
+-- and an eight-byte table. Either is due at each gate
 
 abbrev pub faninsIn : List ℕ → List ℕ
 faninsIn rest = take (getD rest 2 0) (drop 3 rest)
@@ -87,22 +88,39 @@ faninsIn rest = take (getD rest 2 0) (drop 3 rest)
 abbrev pub afterFanins : List ℕ → List ℕ
 afterFanins rest = drop (getD rest 2 0) (drop 3 rest)
 
+-- a gate's record: its mark, the bounds of k, and how many bytes the table has
+pub record GateForm : Type 0 where
+  pub opening : ℕ
+  pub least : ℕ
+  pub most : ℕ
+  pub bytes : ℕ
+
+abbrev pub narrow : GateForm
+narrow = record { opening = 0x4E47; least = 1; most = 4; bytes = 2 }
+
+abbrev pub wide : GateForm
+wide = record { opening = 0x4E48; least = 5; most = 6; bytes = 8 }
+
+-- the form of the record that opens what is left: wide by its mark, else the narrow one is due
+abbrev pub formOf : List ℕ → GateForm
+formOf rest = cond (leb 2 (length rest) && eqb (mark rest) (wide .opening)) wide narrow
+
 abbrev pub tableIn : List ℕ → ℕ
-tableIn rest = littleEndian (take 2 (afterFanins rest))
+tableIn rest = littleEndian (take (formOf rest .bytes) (afterFanins rest))
 
 -- k is read and tested before the rest of the record's length; then each fan-in, then the table
-abbrev pub gateTests : ℕ → List ℕ → List Answer
-gateTests limit rest =
-    markTest 0x4E47 rest
+abbrev pub gateTests : GateForm → ℕ → List ℕ → List Answer
+gateTests f limit rest =
+    markTest (f .opening) rest
     ∷ lengthTest 3 rest
-    ∷ countTest mostFanins (getD rest 2 0)
-    ∷ lengthTest (getD rest 2 0 + 2) (drop 3 rest)
+    ∷ rangeTest (f .least) (f .most) (getD rest 2 0)
+    ∷ lengthTest (getD rest 2 0 + f .bytes) (drop 3 rest)
     ∷ faninsTest limit (faninsIn rest)
-    ∷ widthTest (2 ^ getD rest 2 0) (tableIn rest)
+    ∷ widthTest (2 ^ getD rest 2 0) (littleEndian (take (f .bytes) (afterFanins rest)))
     ∷ []
 
 unfoldable pub gateRecord : ℕ → List ℕ → Answer
-gateRecord limit rest = first (gateTests limit rest)
+gateRecord limit rest = first (gateTests (formOf rest) limit rest)
 
 abbrev pub withGate : Session → ℕ → ℕ → List ℕ → ℕ → Session
 withGate t g k fs table = record {
@@ -123,7 +141,7 @@ unfoldable pub readGates : ℕ → ℕ → Session → List ℕ → Loaded
 readGates zero g t rest = readOutputs (t .p) 0 t rest
 readGates (suc c) g t rest =
     onward (gateRecord (t .n + g) rest)
-    (readGates c (g + 1) (withGate t g (getD rest 2 0) (faninsIn rest) (tableIn rest)) (drop 2 (afterFanins rest)))
+    (readGates c (g + 1) (withGate t g (getD rest 2 0) (faninsIn rest) (tableIn rest)) (drop (formOf rest .bytes) (afterFanins rest)))
 
 -- ## `4E 58`: the excluded set, 2^n bits in 2^n/8 bytes, one byte where n is below 3. A one means the pattern never comes
 

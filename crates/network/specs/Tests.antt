@@ -49,9 +49,13 @@ markTest due rest = cond (ltb (length rest) 2) (Refused Truncated) (refuseIf (no
 
 -- ## 3 to 7
 
+-- 3: a number outside least .. most
+abbrev pub rangeTest : ℕ → ℕ → ℕ → Answer
+rangeTest least most x = refuseIf (not (leb least x && leb x most)) OutOfBounds
+
 -- 3: a count outside 1 .. most
 abbrev pub countTest : ℕ → ℕ → Answer
-countTest most x = refuseIf (not (leb 1 x && leb x most)) OutOfBounds
+countTest most x = rangeTest 1 most x
 
 abbrev pub member : ℕ → List ℕ → Bool
 member x [] = false

@@ -10,14 +10,16 @@ use bits::GATE_PLACES;
 use bits::MOST_INPUTS;
 use bits::ROW_WORDS;
 
-// The bounds of m, p and k, and the most signals.
+// The bounds of m, p and k, and the most signals and, in one table, entries.
 pub const MOST_GATES: usize = 40;
 
 pub const MOST_OUTPUTS: usize = 8;
 
-pub const MOST_FANINS: usize = 4;
+pub const MOST_FANINS: usize = 6;
 
 pub const MOST_SIGNALS: usize = MOST_INPUTS + MOST_GATES;
+
+pub const MOST_ENTRIES: usize = 1 << MOST_FANINS;
 
 // The places for the fan-ins of all gates; the excluded words of a session; the words of a row for each signal, and for each gate.
 pub const FANIN_PLACES: usize = MOST_GATES * GATE_PLACES;
@@ -28,10 +30,21 @@ pub const SIGNAL_WORDS: usize = MOST_SIGNALS * ROW_WORDS;
 
 pub const GATE_WORDS: usize = MOST_GATES * ROW_WORDS;
 
+// The two forms of a gate's record: the bounds of k, and how many bytes the table has; MOST_FANINS ends the wide one.
+pub const NARROW_LEAST: usize = 1;
+
+pub const NARROW_MOST: usize = 4;
+
+pub const NARROW_BYTES: usize = 2;
+
+pub const WIDE_LEAST: usize = 5;
+
+pub const WIDE_BYTES: usize = 8;
+
 // The most bytes of a set of patterns, of a gate's record, and of a file.
 pub const MOST_SET_BYTES: usize = (1 << MOST_INPUTS) / 8;
 
-pub const MOST_GATE_BYTES: usize = MOST_FANINS + 5;
+pub const MOST_GATE_BYTES: usize = 3 + MOST_FANINS + WIDE_BYTES;
 
 pub const MOST_FILE_BYTES: usize = 5
     + (2 + MOST_SET_BYTES)
@@ -99,9 +112,15 @@ pub struct Exchanged {
     pub session: Session,
 }
 
+// The SDC of one gate: its first 64 entries, and the others.
+pub struct Sdc {
+    pub low: u64,
+    pub high: u64,
+}
+
 // The tables of one gate.
 pub struct Tables {
-    pub sdc: u64,
+    pub sdc: Sdc,
     pub cdc: u64,
     pub full: u64,
     pub open_table: u64,

@@ -19,7 +19,7 @@ use Rattle.network.specs.declared.Refusal.the-variants.{OutOfBounds, FaninNotEa
 use Rattle.network.specs.declared.Answer.{Answer}
 use Rattle.network.specs.declared.Answer.the-variants.{Done, Refused}
 use Rattle.network.specs.Bounds.{mostGates, mostOutputs, mostFanins, faninPlaces}
-use Rattle.network.specs.Tests.{refuseIf, orElse, first, countTest, member, faninTest, faninsTest, widthTest, excludedTest}
+use Rattle.network.specs.Tests.{refuseIf, orElse, first, countTest, rangeTest, member, faninTest, faninsTest, widthTest, excludedTest}
 use Rattle.network.specs.State.{arityOf, gateFault, outputFault, stateFault, stateTest}
 use Rattle.network.proofs.TestLaws.{clear-e, count-e}
 
@@ -29,11 +29,11 @@ use Rattle.network.proofs.TestLaws.{clear-e, count-e}
 pub past : (r : Refusal) (a b : ℕ) → b ≤ a → Refused r ≡ refuseIf (not (ltb a b)) r
 past r a b h = rw (le-ltb a b h)
 
-pub count-low : (most x : ℕ) → x < 1 → Refused OutOfBounds ≡ countTest most x
-count-low most x l = rw (lt-leb 1 x l)
+pub range-low : (least most x : ℕ) → x < least → Refused OutOfBounds ≡ rangeTest least most x
+range-low least most x l = rw (lt-leb least x l)
 
-pub count-high : (most x : ℕ) → 1 ≤ x → most < x → Refused OutOfBounds ≡ countTest most x
-count-high most x l h = rw (le-leb 1 x l, lt-leb x most h)
+pub range-high : (least most x : ℕ) → least ≤ x → most < x → Refused OutOfBounds ≡ rangeTest least most x
+range-high least most x l h = rw (le-leb least x l, lt-leb x most h)
 
 -- no word has a bit past its 64
 pub wide : (bits x : ℕ) → x < 2 ^ 64 → 64 ≤ bits → x < 2 ^ bits

@@ -6,7 +6,7 @@ ghost use lib.ListN.{length, getD};
 ghost use Rattle.bits.specs.Bounds.{mostInputs};
 ghost use Rattle.bits.specs.Range.{places, upFrom};
 ghost use Rattle.network.specs.Bounds.{mostGates, mostOutputs, mostFanins, excludedWords};
-ghost use Rattle.network.specs.Tests.{first, countTest, faninTest, faninsTest, widthTest, excludedTest, outputTest};
+ghost use Rattle.network.specs.Tests.{first, countTest, rangeTest, faninTest, faninsTest, widthTest, excludedTest, outputTest};
 ghost use Rattle.network.specs.Tests as tests;
 ghost use Rattle.network.specs.State.{gateFault, stateFault, stateTest};
 use bits::GATE_PLACES;
@@ -19,17 +19,24 @@ use network::MOST_OUTPUTS;
 use network::Refusal;
 use network::Session;
 
-// Refusal 3: a count outside 1 .. most.
-pub fn count_test(most: usize, x: u8) -> Answer
-    ensures { λ r. ⌜ r ≡ countTest most x ⌝ }
+// Refusal 3: a number outside least .. most.
+pub fn range_test(least: usize, most: usize, x: u8) -> Answer
+    ensures { λ r. ⌜ r ≡ rangeTest least most x ⌝ }
 {
-    if x < 1 {
+    if (x as usize) < least {
         return Answer::Refused(Refusal::OutOfBounds);
     }
     if (x as usize) > most {
         return Answer::Refused(Refusal::OutOfBounds);
     }
     Answer::Done
+}
+
+// Refusal 3: a count outside 1 .. most.
+pub fn count_test(most: usize, x: u8) -> Answer
+    ensures { λ r. ⌜ r ≡ countTest most x ⌝ }
+{
+    range_test(1, most, x)
 }
 
 // Refusal 3, of the three counts in turn.
