@@ -7,6 +7,7 @@ use lib.ListN.{length, getD}
 use borrow.Author.Tests.{le-ltb, lt-ltb}
 use Rattle.bits.specs.Lists.{overwritten}
 use Rattle.network.specs.declared.Session.{Session}
+use Rattle.network.specs.declared.Sdc.{Sdc}
 use Rattle.network.specs.declared.Refusal.{Refusal}
 use Rattle.network.specs.declared.Refusal.the-variants.{BufferTooShort}
 use Rattle.network.specs.declared.TablesAnswer.the-variants as tables
@@ -15,7 +16,7 @@ use Rattle.network.specs.DontCares.{sdc, cdc, full}
 use Rattle.network.specs.Flat.{loadedNet, currentNet}
 use Rattle.network.specs.Tests.{first}
 use Rattle.network.specs.State.{stateFault, stateTest}
-use Rattle.network.specs.Calls.{gateTest, tablesOf, Filled, roomTest, filled, countsFor, countsOf}
+use Rattle.network.specs.Calls.{gateTest, sdcWords, tablesOf, Filled, roomTest, filled, countsFor, countsOf}
 use Rattle.network.proofs.Valid.{state-i}
 
 -- ## Tables
@@ -26,8 +27,8 @@ module _ (s : Session) (k : ℕ) where
   tables-refused e = rw e
 
   -- the tables of the gate's place
-  pub tables-done : first (stateTest s ∷ gateTest (loadedNet s) k ∷ []) ≡ Done → s .n ≤ k → {d c f : ℕ}
-      → d ≡ sdc (currentNet s) (s .n + (k - s .n)) → c ≡ cdc (currentNet s) (s .n + (k - s .n)) → f ≡ full (currentNet s) (s .n + (k - s .n))
+  pub tables-done : first (stateTest s ∷ gateTest (loadedNet s) k ∷ []) ≡ Done → s .n ≤ k → {d : Sdc} {c f : ℕ}
+      → d ≡ sdcWords (sdc (currentNet s) (s .n + (k - s .n))) → c ≡ cdc (currentNet s) (s .n + (k - s .n)) → f ≡ full (currentNet s) (s .n + (k - s .n))
       → tables.Given (record { sdc = d; cdc = c; full = f; open_table = getD (s .open_tables) (k - s .n) 0 }) ≡ tablesOf s k
   unfolding tablesOf
   tables-done e h p q r =

@@ -1,10 +1,10 @@
--- Arrays that hold the CDC and the full table of each gate. Assumes nothing.
+-- Arrays that hold the CDC and the full table of each gate, and the SDC by its table. Assumes nothing.
 use mathlib.Core.Path.{_≡_}
 use mathlib.Core.Bool.{_&&_, not}
 use mathlib.Core.List.{List}
-use Prim.Native.Nat.{ℕ, _+_, _≤_, _<_}
+use Prim.Native.Nat.{ℕ, _+_, _%_, _^_, _≤_, _<_}
 use lib.ListN.{getD}
-use Rattle.bits.specs.Bit.{bit}
+use Rattle.bits.specs.Bit.{bit, differs, tableOf}
 use Rattle.bits.specs.Cut.{Framed}
 use Rattle.network.specs.Net.{Net}
 use Rattle.network.specs.DontCares.{cdc, full}
@@ -37,3 +37,7 @@ GatesTabled ks fs excluded rows odcs count live a e cdcs fulls k =
     (ts outs : List ℕ) (n m p : ℕ) → e ≤ m → NetOk ks fs n m → Rows ks fs ts rows n m count → Framed n count live
     → ((g : ℕ) → a ≤ g → g < e → OdcAt (netOf ks fs ts n m excluded outs p) odcs n g count)
     → Tabled (netOf ks fs ts n m excluded outs p) cdcs fulls n a k
+
+-- rule 1 of a table of k fan-ins
+unfoldable pub sdcTable : (k table : ℕ) → ℕ
+sdcTable k table = tableOf (2 ^ (k + 1)) (λ e. differs (bit e k) (bit table (e % 2 ^ k)))

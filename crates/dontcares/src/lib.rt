@@ -15,16 +15,18 @@ ghost use Rattle.network.specs.Net.{entry};
 ghost use Rattle.network.specs.DontCares.{sdc, cdc, odc, full};
 ghost use Rattle.network.specs.Flat.{gateAt, currentNet, wordOf};
 ghost use Rattle.network.specs.State.{stateFault};
+ghost use Rattle.network.specs.Calls.{sdcWords};
 ghost use Rattle.network.specs.Valid.{GateOk};
 ghost use Rattle.simulate.specs.Simulated.{wordsAt};
 ghost use Rattle.observability.specs.Odc.{OdcAt};
-ghost use Rattle.dontcares.specs.Tabled.{Comes, Tabled, GateTabled, GatesTabled};
+ghost use Rattle.dontcares.specs.Tabled.{Comes, Tabled, GateTabled, GatesTabled, sdcTable};
 use bits::ROW_WORDS;
 use network::EXCLUDED_WORDS;
 use network::FANIN_PLACES;
 use network::GATE_WORDS;
 use network::MOST_GATES;
 use network::SIGNAL_WORDS;
+use network::Sdc;
 use network::Session;
 
 // The patterns that come: the live places of each word that do not lie in E.
@@ -233,21 +235,30 @@ pub fn gate_tables(s: Session, g: usize) -> GateTables
     }
 }
 
-// Rule 1 for a table of k fan-ins: its entries, then their complement.
-fn sdc_of(k: usize, table: u64) -> u64
+// Rule 1 for a table of k fan-ins: its entries, then their complement; with six fan-ins either fills a word.
+fn sdc_of(k: usize, table: u64) -> Sdc
     requires { ⌜ (k ≤ mostFanins) × (table < 2 ^ 2 ^ k) ⌝ }
-    ensures { λ r. ⌜ r ≡ tableOf (2 ^ (k + 1)) (λ e. differs (bit e k) (bit table (e % 2 ^ k))) ⌝ }
+    ensures { λ r. ⌜ r ≡ sdcWords (sdcTable k table) ⌝ }
 {
     let c = entries::entry_count(k);
     let other = bits::complement_within(c, table);
-    table + (other << c)
+    if c == 64 {
+        return Sdc {
+            low: table,
+            high: other,
+        };
+    }
+    Sdc {
+        low: table + (other << c),
+        high: 0,
+    }
 }
 
 // Rule 1 for gate g.
-pub fn sdc(s: Session, g: usize) -> u64
+pub fn sdc(s: Session, g: usize) -> Sdc
     requires { ⌜ stateFault s ≡ Done ⌝ }
     requires { ⌜ g < s .m ⌝ }
-    ensures { λ r. ⌜ r ≡ sdc (currentNet s) (s .n + g) ⌝ }
+    ensures { λ r. ⌜ r ≡ sdcWords (sdc (currentNet s) (s .n + g)) ⌝ }
 {
     let arity = s.arity;
     let tables = s.current;

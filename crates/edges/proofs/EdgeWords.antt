@@ -1,5 +1,6 @@
 -- Rule 6 in words, over plain variables. Assumes nothing.
 use mathlib.Core.Path.{_≡_, refl, sym, ap, ap₂, _∙_, subst}
+use mathlib.Core.Logic.{inl, inr}
 use mathlib.Core.Bool.{Bool, true, false, not, cond, _&&_, _||_, Bool·beq}
 use mathlib.Core.List.{List, _∷_}
 use Prim.Native.Nat.{ℕ, zero, suc, _+_, _-_, _*_, _/_, _%_, _^_, _<_, _≤_}
@@ -13,17 +14,19 @@ use lib.ListN.{length, getD, set}
 use lib.Pow.{pow-add, pow-lt, pow-mono, pow-pos, split}
 use lib.Seq.{getD-set-same, getD-set-other}
 use borrow.Author.Tests.{not-true}
-use Rattle.bits.specs.Bounds.{gatePlaces, smallFanins, smallWords}
+use Rattle.bits.specs.Bounds.{gatePlaces, smallFanins}
 use Rattle.bits.specs.Bit.{bit, choose, differs, tableOf}
 use Rattle.bits.proofs.BitLaws.{bit-and, bit-xor, bit-ext, bit-zero, bit-ones, bit-shr, bit-low, bit-high, bit-above, differs-true, with-own, with-other, power-own, power-other}
+use Rattle.bits.proofs.Cuts.{one-shl}
 use Rattle.bits.proofs.Logic.{beq-i, differs-e, differs-i}
-use Rattle.bits.proofs.Ranges.{and-l, and-r, and-i, or-r, and-true, by-cases, iff, every-e, every-i, lt-cases, table-lt, bit-table, small-words}
+use Rattle.bits.proofs.Ranges.{and-l, and-r, and-i, or-r, and-true, by-cases, iff, every-e, every-i, lt-cases, table-lt, bit-table, entries-most}
+use Rattle.network.specs.Bounds.{mostFanins}
 use Rattle.network.specs.Net.{entry}
 use Rattle.network.specs.Compatible.{agree, constant, turns, freeFanins}
 use Rattle.network.specs.Flat.{gateAt}
 use Rattle.network.proofs.FlatGates.{entry-lt, arity-at, table-at}
 use Rattle.network.proofs.Safe.{constant-e, constant-i, constant-none}
-use Rattle.edges.specs.Edges.{edgeTable, Edged, Constants, Doubled, Halved}
+use Rattle.edges.specs.Edges.{edgeTable, GateEdged, SmallEdged, EdgesPut, Constants, Doubled, Halved}
 
 and-false : (a : Bool) → (a && false) ≡ false
 and-false true = refl
@@ -157,7 +160,7 @@ constant-more k table f r t hf hr ht = iff (constant k table g t) ((constant k t
 
 -- of no fan-ins there is one: all entries
 pub constants-none : (table : ℕ) (rest : List ℕ) → Constants table ((2 ^ 64 - 1) ∷ rest) 1
-constants-none table rest k f t hk h hf ht = rw (lt-one h) (bit-ones 64 t (omega (arith, small-words k hk)) ∙ sym (constant-none k table t ht))
+constants-none table rest k f t hk h hf ht = rw (lt-one h) (bit-ones 64 t (omega (arith, entries-most k hk)) ∙ sym (constant-none k table t ht))
 
 -- one fan-in more; y is the table with it turned, and like has the entries at which the two are the same
 pub constants-more : (table : ℕ) (l₀ l : List ℕ) (r y like : ℕ) → ((t : ℕ) → t < 64 → bit y t ≡ bit table (bitXor t (2 ^ r))) → ((t : ℕ) → t < 64 → bit like t ≡ not (bit (bitXor table y) t))
@@ -165,7 +168,7 @@ pub constants-more : (table : ℕ) (l₀ l : List ℕ) (r y like : ℕ) → ((t 
 constants-more table l₀ l r y like turn flip d so-far k f t hk h hf ht = go (decLt f (2 ^ r)) (decLt r k)
   where
     few : t < 64
-    few = omega (arith, small-words k hk)
+    few = omega (arith, entries-most k hk)
 
     goal : ℕ → Type 0
     goal f = bit (getD l f 0) t ≡ constant k table f t
@@ -242,9 +245,10 @@ turn-bit k table t (suc j) r h = lt-cases r j h (λ l. kept l (constant k table 
 abbrev pub AtTurn : (k table : ℕ) (words : List ℕ) (r : ℕ) → Type 0
 AtTurn k table l r = (h : ℕ) → h < 2 ^ (k - r) → (t : ℕ) → t < 2 ^ k → bit (getD l h 0) t ≡ constant k table (turns k table t r + 2 ^ r * h) t
 
-pub at-turn-start : (k table : ℕ) (l : List ℕ) → k ≤ smallFanins → Constants table l smallWords → AtTurn k table l 0
+pub at-turn-start : (n k table : ℕ) (l : List ℕ) → k ≤ n → n ≤ mostFanins → Constants table l (2 ^ n) → AtTurn k table l 0
 unfolding turns
-at-turn-start k table l hk c h lh t ht = c k h t hk (omega (arith, small-words k hk, simp sub-zero at lh)) (simp sub-zero at lh) ht ∙ ap (λ (f : ℕ). constant k table f t) (omega arith)
+at-turn-start n k table l hk hn c h lh t ht =
+    c k h t (omega arith) (omega (arith, pow-mono {i = k} {j = n} hk, simp sub-zero at lh)) (simp sub-zero at lh) ht ∙ ap (λ (f : ℕ). constant k table f t) (omega arith)
 
 -- word 1 tells where fan-in r becomes free
 at-turn-own : (k table : ℕ) (l : List ℕ) (r : ℕ) → r < k → AtTurn k table l r → (t : ℕ) → t < 2 ^ k → bit (getD l 1 0) t ≡ constant k table (turns k table t r + 2 ^ r) t
@@ -303,6 +307,10 @@ halved-step l₀ l h v free hl ev s = (λ q lq t. go q lq t (ℕ-discrete q h), 
 
 -- ## Edge tables
 
+-- half of the words that are left
+pub half-room : (n k r : ℕ) → n ≤ mostFanins → r < k → k ≤ n → 2 ^ (k - 1 - r) ≤ (1 * 2 ^ (n - 1 - r)) % 2 ^ 64
+half-room n k r hn h hk = omega (arith, one-shl (n - 1 - r) 64 (omega arith), pow-mono {i = k - 1 - r} {j = n - 1 - r} (omega arith))
+
 -- one more place of a stretch of k that starts at a
 pub filled-from : (l : List ℕ) (p : ℕ → ℕ) (a i k v : ℕ) → a + i < length l → ((q : ℕ) → q < i → q < k → getD l (a + q) 0 ≡ p q) → (i < k → v ≡ p i)
     → (q : ℕ) → q < i + 1 → q < k → getD (set l (a + i) v) (a + q) 0 ≡ p q
@@ -312,15 +320,39 @@ filled-from l p a i k v h so-far own q lq lk = go (ℕ-discrete q i)
     go (yes s) = rw s (getD-set-same l (a + i) v 0 h ∙ own (omega arith))
     go (no n) = getD-set-other l (a + i) (a + q) v 0 (λ s. n (omega arith)) ∙ so-far q (omega arith) lk
 
--- one more gate
-pub edged-step : (ks ts es es′ : List ℕ) (g k : ℕ) → ((h : ℕ) → h ≤ g → getD ks h 0 ≤ smallFanins) → k ≡ getD ks g 0 → Edged ks ts es g
-    → ((r : ℕ) → r < k → getD es′ (gatePlaces * g + r) 0 ≡ edgeTable k (getD ts g 0) r)
-    → ((q : ℕ) → q < gatePlaces * g → getD es′ q 0 ≡ getD es q 0) → Edged ks ts es′ (g + 1)
-edged-step ks ts es es′ g k few ek done own kept h lh r lr =
-    lt-cases h g (omega arith)
-    (λ l. kept (gatePlaces * h + r) (omega (arith, few h (omega arith))) ∙ done h l r lr)
-    (λ e. subst (λ (i : ℕ). getD es′ (gatePlaces * i + r) 0 ≡ edgeTable (getD ks i 0) (getD ts i 0) r) (sym e)
-    (own r (omega (arith, ek, ap (λ (i : ℕ). getD ks i 0) e)) ∙ ap (λ (i : ℕ). edgeTable i (getD ts g 0) r) ek))
+-- what is put for gate g leaves the edge tables of the others, and gives its own if it has no more fan-ins than turns were taken
+gate-put : (ks ts es es′ : List ℕ) (taken g k : ℕ) → k ≡ getD ks g 0 → EdgesPut taken k (getD ts g 0) (gatePlaces * g) es es′
+    → (h : ℕ) → getD ks h 0 ≤ mostFanins → ((h ≡ g → ⊥) → GateEdged ks ts es h) → (h ≡ g → k ≤ taken) → GateEdged ks ts es′ h
+gate-put ks ts es es′ taken g k ek p h few other own r lr = go (ℕ-discrete h g) (decLt h g)
+  where
+    go : Dec (h ≡ g) → Dec (h < g) → getD es′ (gatePlaces * h + r) 0 ≡ edgeTable (getD ks h 0) (getD ts h 0) r
+    go (yes e) _ =
+        subst (λ (i : ℕ). getD es′ (gatePlaces * i + r) 0 ≡ edgeTable (getD ks i 0) (getD ts i 0) r) (sym e)
+        (p .own (own e) r (omega (arith, ek, ap (λ (i : ℕ). getD ks i 0) e)) ∙ ap (λ (i : ℕ). edgeTable i (getD ts g 0) r) ek)
+    go (no d) (yes l) = p .others (gatePlaces * h + r) (inl (omega arith)) ∙ other d r lr
+    go (no d) (no l) = p .others (gatePlaces * h + r) (inr (omega arith)) ∙ other d r lr
+
+-- one more gate, its edge tables there if it is small
+pub small-next : (ks ts es es′ : List ℕ) (g k : ℕ) → k ≡ getD ks g 0 → EdgesPut smallFanins k (getD ts g 0) (gatePlaces * g) es es′
+    → SmallEdged ks ts es g → SmallEdged ks ts es′ (g + 1)
+small-next ks ts es es′ g k ek p s h lh few =
+    gate-put ks ts es es′ smallFanins g k ek p h (omega arith) (λ d. s h (omega arith) few) (λ e. omega (arith, ek, ap (λ (i : ℕ). getD ks i 0) e))
+
+-- of m gates, the first g and all small ones have theirs
+abbrev pub EdgedPast : (arity tables edges : List ℕ) (m g : ℕ) → Type 0
+EdgedPast ks ts es m g = (h : ℕ) → h < m → (g ≤ h → getD ks h 0 ≤ smallFanins) → GateEdged ks ts es h
+
+pub past-wide : (ks ts es es′ : List ℕ) (m g k : ℕ) → g < m → ((h : ℕ) → h < m → getD ks h 0 ≤ mostFanins) → k ≡ getD ks g 0
+    → EdgesPut mostFanins k (getD ts g 0) (gatePlaces * g) es es′ → EdgedPast ks ts es m g → EdgedPast ks ts es′ m (g + 1)
+past-wide ks ts es es′ m g k hg few ek p s h lh small =
+    gate-put ks ts es es′ mostFanins g k ek p h (few h lh) (λ d. s h lh (λ le. small (omega arith))) (λ e. omega (arith, ek, few g hg))
+
+pub past-small : (ks ts es : List ℕ) (m g : ℕ) → getD ks g 0 ≤ smallFanins → EdgedPast ks ts es m g → EdgedPast ks ts es m (g + 1)
+past-small ks ts es m g few s h lh small = s h lh (λ le. go le (ℕ-discrete h g))
+  where
+    go : g ≤ h → Dec (h ≡ g) → getD ks h 0 ≤ smallFanins
+    go le (yes e) = rw e few
+    go le (no d) = small (omega arith)
 
 -- at the entry that the values vs pick, the edge table of fan-in r tells whether the gate frees it
 pub edge-at : (ks fs ts : List ℕ) (vs : List Bool) (g r : ℕ) → bit (edgeTable (getD ks g 0) (getD ts g 0) r) (entry vs (gateAt ks fs ts g)) ≡ bit (freeFanins (gateAt ks fs ts g) (entry vs (gateAt ks fs ts g))) r

@@ -1,21 +1,24 @@
--- Rows of words, over plain lists: one turn of the loops that fill them, and what one word number of all rows is. Assumes nothing.
+-- Rows of words, over plain lists: one turn of the loops that fill them, what one word number of all rows is, and the row of a gate.
+-- Assumes nothing.
 use mathlib.Core.Path.{_≡_, refl, sym, ap, ap₂, _∙_}
 use mathlib.Core.Bool.{Bool, false}
-use mathlib.Core.List.{List, map}
-use Prim.Native.Nat.{ℕ, _+_, _*_, _≤_, _<_}
+use mathlib.Core.List.{List, [], _∷_, _++_, map}
+use Prim.Native.Nat.{ℕ, _+_, _*_, _/_, _^_, _≤_, _<_}
 use native.Mathlib.Decide.{ℕ-discrete}
 use native.Mathlib.Omega.{arith}
-use lib.ListN.{length, getD, set, length-set}
+use lib.Bits.{bitXor}
+use lib.ListN.{length, getD, set, length-set, length-map}
 use lib.Seq.{ext-getD, getD-set-same, getD-set-other}
 use Rattle.bits.specs.Bounds.{rowWords, gatePlaces}
 use Rattle.bits.specs.Bit.{bit, number, column}
-use Rattle.bits.proofs.Ranges.{length-places, places-at, places-ext, map-places, table-ext, column-at}
+use Rattle.bits.proofs.Ranges.{length-places, places-at, places-ext, map-snoc, map-places, table-ext, column-at}
+use Rattle.bits.proofs.Shannon.{davio}
 use Rattle.network.specs.Bounds.{mostSignals, signalWords}
 use Rattle.network.specs.Net.{entry}
-use Rattle.network.specs.Flat.{faninsAt, gateAt}
+use Rattle.network.specs.Flat.{gateAt}
 use Rattle.network.specs.Valid.{GateOk}
 use Rattle.network.proofs.FlatGates.{entry-at}
-use Rattle.simulate.specs.Simulated.{wordsAt, valueAt}
+use Rattle.simulate.specs.Simulated.{wordsAt, valueAt, firstFanins, LutRow, Joined}
 
 -- one word more of a row whose bits are given by p
 pub filled-bits : (l : List ℕ) (p : ℕ → ℕ → Bool) (i v : ℕ) → i < length l
@@ -81,12 +84,49 @@ store-step rows₀ rows p s i v hs hi c ev = (
     done w h (yes e) = rw e (own-word rows s i v hi hs (c .0) ∙ ap₂ (λ (l : List ℕ) (x : ℕ). set l s x) (c .2 i (omega arith) hi) ev)
     done w h (no n) = other-word rows s i v hi w (omega arith) n ∙ c .1 w (omega arith)
 
--- the entry that the values of a gate's fan-ins pick
-pub entry-row : (ks fs ts rows ss : List ℕ) (g w b : ℕ) → GateOk ks fs g mostSignals → ss ≡ faninsAt ks fs g
-    → number (map (λ s. valueAt rows s w b) ss) ≡ entry (column (wordsAt rows w) b) (gateAt ks fs ts g)
-entry-row ks fs ts rows ss g w b ok e =
-    ap (λ (l : List ℕ). number (map (λ s. valueAt rows s w b) l)) e
-    ∙ ap number (map-places (λ s. valueAt rows s w b) (getD ks g 0) (λ r. getD fs (gatePlaces * g + r) 0))
-    ∙ table-ext (getD ks g 0) (λ r. valueAt rows (getD fs (gatePlaces * g + r) 0) w b) (λ r. getD (column (wordsAt rows w) b) (getD fs (gatePlaces * g + r) 0) false)
-    (λ r h. sym (column-at (wordsAt rows w) b (getD fs (gatePlaces * g + r) 0) ∙ ap (λ (x : ℕ). bit x b) (words-at rows w (getD fs (gatePlaces * g + r) 0) (ok .early r h))))
-    ∙ sym (entry-at ks fs ts (column (wordsAt rows w) b) g)
+-- ## The row of a gate
+
+module _ (t : ℕ) (rows ss : List ℕ) where
+  -- of no word, and one word more
+  pub row-none : (l : List ℕ) → length l ≡ rowWords → LutRow t rows ss 0 l
+  row-none l h = record { long = h; each = λ w b k. absurd (omega arith) }
+
+  pub row-step : (l : List ℕ) (i v : ℕ) → i < rowWords → LutRow t rows ss i l → ((b : ℕ) → b < 64 → bit v b ≡ bit t (number (map (λ s. valueAt rows s i b) ss)))
+      → LutRow t rows ss (i + 1) (set l i v)
+  row-step l i v h row here = record {
+    long = length-set l i v ∙ row .long;
+    each = filled-bits l (λ w b. bit t (number (map (λ s. valueAt rows s w b) ss))) i v (omega (arith, row .long)) (row .each) here;
+  }
+
+  -- all words
+  pub row-done : (l : List ℕ) (i count : ℕ) → count ≤ i → LutRow t rows ss i l → LutRow t rows ss count l
+  row-done l i count h row = record { long = row .long; each = λ w b k. row .each w b (omega arith) }
+
+  -- one signal more, by Davio's expansion: the row of the lower half, joined with that of its difference from the upper half
+  pub row-more : (other l₀ l : List ℕ) (s count : ℕ) → LutRow (bitXor t (t / 2 ^ 2 ^ length ss)) rows ss count other → LutRow t rows ss count l₀
+      → Joined rows other l₀ l s count → LutRow t rows (ss ++ s ∷ []) count l
+  row-more other l₀ l s count up lo join = record { long = join .long; each = each }
+    where
+      at : ℕ → ℕ → ℕ → Bool
+      at w b s = valueAt rows s w b
+
+      each : (w b : ℕ) → w < count → b < 64 → bit (getD l w 0) b ≡ bit t (number (map (at w b) (ss ++ s ∷ [])))
+      each w b hw hb =
+          ap (λ (x : ℕ). bit x b) (join .each w hw)
+          ∙ davio t (getD l₀ w 0) (getD other w 0) (getD rows (rowWords * s + w) 0) b (map (at w b) ss) (lo .each w b hw hb)
+          (rw length-map (up .each w b hw hb))
+          ∙ ap (λ (bs : List Bool). bit t (number bs)) (sym (map-snoc (at w b) ss s))
+
+-- all fan-ins of a gate pick its entry
+pub row-entry : (t : ℕ) (ks fs rows l : List ℕ) (k g count : ℕ) → GateOk ks fs g mostSignals → k ≡ getD ks g 0 → LutRow t rows (firstFanins fs k g) count l
+    → (length l ≡ rowWords) × ((ts : List ℕ) (w b : ℕ) → w < count → b < 64 → bit (getD l w 0) b ≡ bit t (entry (column (wordsAt rows w) b) (gateAt ks fs ts g)))
+unfolding firstFanins
+row-entry t ks fs rows l k g count ok e row = (row .long, λ ts w b hw hb. row .each w b hw hb ∙ ap (bit t) (picked ts w b))
+  where
+    picked : (ts : List ℕ) (w b : ℕ) → number (map (λ s. valueAt rows s w b) (firstFanins fs k g)) ≡ entry (column (wordsAt rows w) b) (gateAt ks fs ts g)
+    picked ts w b =
+        ap (λ (k : ℕ). number (map (λ s. valueAt rows s w b) (firstFanins fs k g))) e
+        ∙ ap number (map-places (λ s. valueAt rows s w b) (getD ks g 0) (λ r. getD fs (gatePlaces * g + r) 0))
+        ∙ table-ext (getD ks g 0) (λ r. valueAt rows (getD fs (gatePlaces * g + r) 0) w b) (λ r. getD (column (wordsAt rows w) b) (getD fs (gatePlaces * g + r) 0) false)
+        (λ r h. sym (column-at (wordsAt rows w) b (getD fs (gatePlaces * g + r) 0) ∙ ap (λ (x : ℕ). bit x b) (words-at rows w (getD fs (gatePlaces * g + r) 0) (ok .early r h))))
+        ∙ sym (entry-at ks fs ts (column (wordsAt rows w) b) g)

@@ -1,12 +1,13 @@
 -- What the words of all signals say, 64 patterns a word: of one word number, and of all of them in rows. Assumes nothing.
 use mathlib.Core.Path.{_≡_}
 use mathlib.Core.Bool.{Bool}
-use mathlib.Core.List.{List}
+use mathlib.Core.List.{List, map}
 use Prim.Native.Nat.{ℕ, _+_, _*_, _<_}
+use lib.Bits.{bitAnd, bitXor}
 use lib.ListN.{length, getD, take}
-use Rattle.bits.specs.Bounds.{rowWords}
+use Rattle.bits.specs.Bounds.{rowWords, gatePlaces}
 use Rattle.bits.specs.Range.{places}
-use Rattle.bits.specs.Bit.{bit, column}
+use Rattle.bits.specs.Bit.{bit, column, number}
 use Rattle.network.specs.Bounds.{mostSignals}
 use Rattle.network.specs.Net.{run}
 use Rattle.network.specs.Flat.{gatesOf}
@@ -33,3 +34,22 @@ valueAt rows s w b = bit (getD rows (rowWords * s + w) 0) b
 -- the first `count` words of each signal
 abbrev pub Rows : (ks fs ts rows : List ℕ) (n m count : ℕ) → Type 0
 Rows ks fs ts rows n m count = (w : ℕ) → w < count → Simulated ks fs ts (wordsAt rows w) n m w
+
+-- ## The row of a gate
+
+-- the first k fan-ins of gate g, and that they are signals
+unfoldable pub firstFanins : (fanins : List ℕ) (k g : ℕ) → List ℕ
+firstFanins fanins k g = places k (λ r. getD fanins (gatePlaces * g + r) 0)
+
+abbrev pub Signals : (fanins : List ℕ) (k g : ℕ) → Type 0
+Signals fanins k g = (r : ℕ) → r < k → getD fanins (gatePlaces * g + r) 0 < mostSignals
+
+-- a row whose first `count` words have the values of table t at those of the signals
+pub record LutRow (t : ℕ) (rows signals : List ℕ) (count : ℕ) (row : List ℕ) : Type 0 where
+  pub long : length row ≡ rowWords
+  pub each : (w b : ℕ) → w < count → b < 64 → bit (getD row w 0) b ≡ bit t (number (map (λ s. valueAt rows s w b) signals))
+
+-- the row l, from the row l₀: another one is added to its first `count` words where signal s has a 1
+pub record Joined (rows other l₀ l : List ℕ) (s count : ℕ) : Type 0 where
+  pub long : length l ≡ rowWords
+  pub each : (w : ℕ) → w < count → getD l w 0 ≡ bitXor (getD l₀ w 0) (bitAnd (getD rows (rowWords * s + w) 0) (getD other w 0))

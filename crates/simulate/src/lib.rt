@@ -4,12 +4,12 @@ ghost use mathlib.Core.List.{List, [], _∷_};
 ghost use Prim.Native.Nat.{ℕ, _+_, _*_, _<_, _≤_};
 ghost use lib.ListN.{length, getD, set};
 ghost use Rattle.bits.specs.Bounds.{mostInputs, rowWords, gatePlaces};
-ghost use Rattle.bits.specs.Bit.{bit, column, number};
+ghost use Rattle.bits.specs.Bit.{bit, column};
 ghost use Rattle.network.specs.Bounds.{mostGates, mostSignals, signalWords};
 ghost use Rattle.network.specs.Net.{entry};
 ghost use Rattle.network.specs.Flat.{gateAt};
 ghost use Rattle.network.specs.Valid.{GateOk, NetOk};
-ghost use Rattle.simulate.specs.Simulated.{Inputs, wordsAt, valueAt, Rows};
+ghost use Rattle.simulate.specs.Simulated.{Inputs, wordsAt, Rows, firstFanins, Signals, LutRow, Joined};
 use bits::GATE_PLACES;
 use bits::ROW_WORDS;
 use network::FANIN_PLACES;
@@ -20,7 +20,7 @@ use network::SIGNAL_WORDS;
 fn row1(t: u64, rows: &[u64; SIGNAL_WORDS], count: usize, a: usize, out: &mut [u64; ROW_WORDS])
     requires { ⌜ (count ≤ rowWords) × (length (now out) ≡ rowWords) ⌝ }
     requires { ⌜ (a < mostSignals) ⌝ }
-    ensures { λ _. ⌜ (length (now (out .exit)) ≡ rowWords) × ((w i : ℕ) → w < count → i < 64 → bit (getD (now (out .exit)) w 0) i ≡ bit t (number (valueAt (now (rows .entry)) a w i ∷ []))) ⌝ }
+    ensures { λ _. ⌜ LutRow t (now (rows .entry)) (a ∷ []) count (now (out .exit)) ⌝ }
 {
     let mut w = 0;
     while w < count {
@@ -40,7 +40,7 @@ fn row2(
 )
     requires { ⌜ (count ≤ rowWords) × (length (now out) ≡ rowWords) ⌝ }
     requires { ⌜ (a < mostSignals) × (b < mostSignals) ⌝ }
-    ensures { λ _. ⌜ (length (now (out .exit)) ≡ rowWords) × ((w i : ℕ) → w < count → i < 64 → bit (getD (now (out .exit)) w 0) i ≡ bit t (number (valueAt (now (rows .entry)) a w i ∷ valueAt (now (rows .entry)) b w i ∷ []))) ⌝ }
+    ensures { λ _. ⌜ LutRow t (now (rows .entry)) (a ∷ b ∷ []) count (now (out .exit)) ⌝ }
 {
     let mut w = 0;
     while w < count {
@@ -61,7 +61,7 @@ fn row3(
 )
     requires { ⌜ (count ≤ rowWords) × (length (now out) ≡ rowWords) ⌝ }
     requires { ⌜ (a < mostSignals) × (b < mostSignals) × (c < mostSignals) ⌝ }
-    ensures { λ _. ⌜ (length (now (out .exit)) ≡ rowWords) × ((w i : ℕ) → w < count → i < 64 → bit (getD (now (out .exit)) w 0) i ≡ bit t (number (valueAt (now (rows .entry)) a w i ∷ valueAt (now (rows .entry)) b w i ∷ valueAt (now (rows .entry)) c w i ∷ []))) ⌝ }
+    ensures { λ _. ⌜ LutRow t (now (rows .entry)) (a ∷ b ∷ c ∷ []) count (now (out .exit)) ⌝ }
 {
     let mut w = 0;
     while w < count {
@@ -88,7 +88,7 @@ fn row4(
 )
     requires { ⌜ (count ≤ rowWords) × (length (now out) ≡ rowWords) ⌝ }
     requires { ⌜ (a < mostSignals) × (b < mostSignals) × (c < mostSignals) × (d < mostSignals) ⌝ }
-    ensures { λ _. ⌜ (length (now (out .exit)) ≡ rowWords) × ((w i : ℕ) → w < count → i < 64 → bit (getD (now (out .exit)) w 0) i ≡ bit t (number (valueAt (now (rows .entry)) a w i ∷ valueAt (now (rows .entry)) b w i ∷ valueAt (now (rows .entry)) c w i ∷ valueAt (now (rows .entry)) d w i ∷ []))) ⌝ }
+    ensures { λ _. ⌜ LutRow t (now (rows .entry)) (a ∷ b ∷ c ∷ d ∷ []) count (now (out .exit)) ⌝ }
 {
     let mut w = 0;
     while w < count {
@@ -104,12 +104,75 @@ fn row4(
     }
 }
 
+// Changes the row where signal s has a 1: there another one is added to it.
+fn join(
+    rows: &[u64; SIGNAL_WORDS],
+    count: usize,
+    s: usize,
+    other: &[u64; ROW_WORDS],
+    out: &mut [u64; ROW_WORDS],
+)
+    requires { ⌜ (count ≤ rowWords) × (s < mostSignals) × (length (now out) ≡ rowWords) ⌝ }
+    ensures { λ _. ⌜ Joined (now (rows .entry)) (now (other .entry)) (now (out .entry)) (now (out .exit)) s count ⌝ }
+{
+    let mut w = 0;
+    while w < count {
+        let v = out[w] ^ (rows[ROW_WORDS * s + w] & other[w]);
+        out[w] = v;
+        w += 1;
+    }
+}
+
 // Fan-in r of gate g.
 pub fn fanin(fanins: &[u8; FANIN_PLACES], g: usize, r: usize) -> usize
     requires { ⌜ (g < mostGates) × (r < gatePlaces) ⌝ }
     ensures { λ s. ⌜ s ≡ getD (now (fanins .entry)) (gatePlaces * g + r) 0 ⌝ }
 {
     network::place(fanins[GATE_PLACES * g + r])
+}
+
+// The table t at the rows of the first five fan-ins of gate g, or six, into a lent row. By Davio's expansion of whole rows: the row of the
+// lower half, and where the last fan-in is 1 the row of its difference from the upper half on top.
+fn row5(
+    t: u64,
+    fanins: &[u8; FANIN_PLACES],
+    rows: &[u64; SIGNAL_WORDS],
+    count: usize,
+    g: usize,
+    out: &mut [u64; ROW_WORDS],
+)
+    requires { ⌜ (g < mostGates) × (count ≤ rowWords) × (length (now out) ≡ rowWords) ⌝ }
+    requires { ⌜ Signals (now fanins) 5 g ⌝ }
+    ensures { λ _. ⌜ LutRow t (now (rows .entry)) (firstFanins (now (fanins .entry)) 5 g) count (now (out .exit)) ⌝ }
+{
+    let a = fanin(fanins, g, 0);
+    let b = fanin(fanins, g, 1);
+    let c = fanin(fanins, g, 2);
+    let d = fanin(fanins, g, 3);
+    let e = fanin(fanins, g, 4);
+    let mut other = [0u64; ROW_WORDS];
+    row4(t ^ (t >> 16), rows, count, a, b, c, d, &mut other);
+    row4(t, rows, count, a, b, c, d, out);
+    join(rows, count, e, &other, out);
+}
+
+fn row6(
+    t: u64,
+    fanins: &[u8; FANIN_PLACES],
+    rows: &[u64; SIGNAL_WORDS],
+    count: usize,
+    g: usize,
+    out: &mut [u64; ROW_WORDS],
+)
+    requires { ⌜ (g < mostGates) × (count ≤ rowWords) × (length (now out) ≡ rowWords) ⌝ }
+    requires { ⌜ Signals (now fanins) 6 g ⌝ }
+    ensures { λ _. ⌜ LutRow t (now (rows .entry)) (firstFanins (now (fanins .entry)) 6 g) count (now (out .exit)) ⌝ }
+{
+    let f = fanin(fanins, g, 5);
+    let mut other = [0u64; ROW_WORDS];
+    row5(t ^ (t >> 32), fanins, rows, count, g, &mut other);
+    row5(t, fanins, rows, count, g, out);
+    join(rows, count, f, &other, out);
 }
 
 // The table t at the rows of the fan-ins of gate g, into a lent row.
@@ -140,7 +203,13 @@ pub fn lut_row(
         return row3(t, rows, count, a, b, c, out);
     }
     let d = fanin(fanins, g, 3);
-    row4(t, rows, count, a, b, c, d, out);
+    if k == 4 {
+        return row4(t, rows, count, a, b, c, d, out);
+    }
+    if k == 5 {
+        return row5(t, fanins, rows, count, g, out);
+    }
+    row6(t, fanins, rows, count, g, out);
 }
 
 // Word w of each fan-in of gate g.

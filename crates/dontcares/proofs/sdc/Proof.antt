@@ -1,10 +1,12 @@
 -- `dontcares::sdc` meets its contract. Assumes nothing.
 use borrow.Author.Needs.{needs}
-use mathlib.Core.Path.{sym, subst}
+use mathlib.Core.Path.{refl, sym, ap, _∙_, subst}
 use Prim.Native.Nat.{ℕ, _^_, _<_}
 use native.Mathlib.Omega.{arith}
 use lib.ListN.{getD}
 use Rattle.network.specs.Flat.{currentNet}
+use Rattle.network.specs.Calls.{sdcWords}
+use Rattle.dontcares.specs.Tabled.{sdcTable}
 use Rattle.network.proofs.TestLaws.{width-e}
 use Rattle.network.proofs.Valid.{valid-e, net-ok}
 use Rattle.dontcares.proofs.SdcLaws.{sdc-is}
@@ -41,7 +43,8 @@ returns c =
     let pl = c .before in
     let s = pl .before .before .before in
     let a = s .args in
-    sdc-is (a .s .arity) (a .s .fanins) (a .s .current) (a .s .excluded) (a .s .outputs) (a .s .n) (a .s .m) (a .s .p) (a .g) (pl .place .result) (c .sdc-of .result) (s .pre .1) (pl .place .ensures) (c .sdc-of .ensures)
+    c .sdc-of .ensures ∙ ap sdcWords
+    (sdc-is (a .s .arity) (a .s .fanins) (a .s .current) (a .s .excluded) (a .s .outputs) (a .s .n) (a .s .m) (a .s .p) (a .g) (pl .place .result) (sdcTable (pl .place .result) (getD (a .s .current) (a .g) 0)) (s .pre .1) (pl .place .ensures) refl)
 
 pub sdc-spec : {M : Type 1} → statement M
 sdc-spec =

@@ -4,24 +4,24 @@ use mathlib.Core.Path.{_≡_, refl, subst}
 use Prim.Native.Nat.{ℕ, _-_, _^_, _≤_}
 use native.Mathlib.Omega.{arith}
 use lib.ListN.{length}
-use Rattle.bits.specs.Bounds.{smallFanins, smallWords}
 use Rattle.bits.specs.Range.{places}
+use Rattle.network.specs.Bounds.{mostEntries}
 use Rattle.edges.specs.Edges.{Constants}
 use Rattle.edges.proofs.EdgeWords.{constants-none, constants-more}
 use Rattle.edges.proofs.constants.Statement.{statement}
 use Rattle.edges.proofs.constants.Tie as tie
 
 abbrev Inv-loop : tie.InvT-loop
-Inv-loop table words₀ r₀ words r = (r ≤ smallFanins) × (length words ≡ smallWords) × Constants table words (2 ^ r)
+Inv-loop turns table words₀ r₀ words r = (r ≤ turns) × (length words ≡ mostEntries) × Constants table words (2 ^ r)
 
 abbrev μ-loop : tie.MeasureT-loop
-μ-loop table words₀ r₀ words r = smallFanins - r
+μ-loop turns table words₀ r₀ words r = turns - r
 
 array-write-words : tie.Need-array-write-words Inv-loop μ-loop
 array-write-words c = search needs
 
 loop-holds : tie.Need-loop-holds Inv-loop μ-loop
-loop-holds c = (omega arith, refl, constants-none (c .args .table) (places 15 (λ i. 0)))
+loop-holds c = (omega arith, refl, constants-none (c .args .table) (places (mostEntries - 1) (λ i. 0)))
 
 turned-requires : tie.Need-turned-requires Inv-loop μ-loop
 turned-requires c κs = search needs
@@ -51,7 +51,7 @@ loop-again c =
 returns : tie.Need-returns Inv-loop μ-loop
 returns c =
     let l = c .before .loop in
-    let e : l .r ≡ smallFanins = omega arith in
+    let e : l .r ≡ c .before .before .args .turns = omega arith in
     subst (λ (r : ℕ). Constants (c .before .before .args .table) (l .words) (2 ^ r)) e (l .inv .2)
 
 pub constants-spec : {M : Type 1} → statement M

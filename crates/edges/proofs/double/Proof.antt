@@ -6,15 +6,15 @@ use native.Mathlib.Omega.{arith}
 use lib.ListN.{length, length-set}
 use lib.Pow.{pow-mono}
 use denote.Ref.{now}
-use Rattle.bits.specs.Bounds.{smallWords}
 use Rattle.bits.proofs.Cuts.{one-shl}
+use Rattle.network.specs.Bounds.{mostFanins, mostEntries}
 use Rattle.edges.specs.Edges.{Doubled}
 use Rattle.edges.proofs.EdgeWords.{doubled-step}
 use Rattle.edges.proofs.double.Statement.{statement}
 use Rattle.edges.proofs.double.Tie as tie
 
 abbrev Inv-loop : tie.InvT-loop
-Inv-loop words₀ r like size f₀ words f = (f ≤ size) × (size ≡ 2 ^ r) × (2 ^ r ≤ smallWords / 2) × (length words ≡ smallWords) × Doubled words₀ words r like f
+Inv-loop words₀ r like size f₀ words f = (f ≤ size) × (size ≡ 2 ^ r) × (2 ^ r ≤ mostEntries / 2) × (length words ≡ mostEntries) × Doubled words₀ words r like f
 
 abbrev μ-loop : tie.MeasureT-loop
 μ-loop words₀ r like size f₀ words f = size - f
@@ -23,7 +23,7 @@ shl-size : tie.Need-shl-size Inv-loop μ-loop
 shl-size c = search needs
 
 loop-holds : tie.Need-loop-holds Inv-loop μ-loop
-loop-holds c = (omega arith, one-shl (c .args .r) 64 (omega arith), pow-mono {j = 3} (omega arith), c .pre .1, (λ f h. refl, λ f h. absurd (omega arith)))
+loop-holds c = (omega arith, one-shl (c .args .r) 64 (omega arith), pow-mono {j = mostFanins - 1} (omega arith), c .pre .1, (λ f h. refl, λ f h. absurd (omega arith)))
 
 mul-w : tie.Need-mul-w Inv-loop μ-loop
 mul-w c = search needs

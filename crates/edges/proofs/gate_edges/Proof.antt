@@ -1,5 +1,6 @@
 -- `edges::gate_edges` meets its contract. Assumes nothing.
 use borrow.Author.Needs.{needs}
+use mathlib.Core.Logic.{_⊎_, ⊎-elim}
 use mathlib.Core.Path.{_≡_, refl, ap, _∙_}
 use Prim.Native.Nat.{ℕ, _+_, _-_, _*_, _%_, _^_, _≤_, _<_}
 use native.Mathlib.Omega.{arith}
@@ -7,23 +8,20 @@ use lib.Bits.{bitAnd}
 use lib.ListN.{length, getD, length-set}
 use lib.Pow.{pow-mono}
 use lib.Seq.{getD-set-other}
-use Rattle.bits.specs.Bounds.{smallFanins, smallWords}
+use Rattle.bits.specs.Bounds.{gatePlaces, smallFanins}
 use Rattle.bits.proofs.Cuts.{one-shl}
-use Rattle.bits.proofs.Ranges.{small-words}
-use Rattle.network.specs.Bounds.{faninPlaces}
+use Rattle.bits.proofs.Ranges.{entries-most}
+use Rattle.network.specs.Bounds.{mostFanins, mostEntries, faninPlaces}
 use Rattle.edges.specs.Edges.{edgeTable}
-use Rattle.edges.proofs.EdgeWords.{AtTurn, at-turn-start, at-turn-edge, at-turn-next, filled-from}
+use Rattle.edges.proofs.EdgeWords.{AtTurn, at-turn-start, at-turn-edge, at-turn-next, half-room, filled-from}
 use Rattle.edges.proofs.gate_edges.Statement.{statement}
 use Rattle.edges.proofs.gate_edges.Tie as tie
 
--- half of the words that are left
-half-room : (k r : ℕ) → r < k → k ≤ smallFanins → 2 ^ (k - 1 - r) ≤ (1 * 2 ^ (smallFanins - 1 - r)) % 2 ^ 64
-half-room k r h hk = omega (arith, one-shl (smallFanins - 1 - r) 64 (omega arith), pow-mono {i = k - 1 - r} {j = smallFanins - 1 - r} (omega arith))
-
 abbrev Inv-loop : tie.InvT-loop
 Inv-loop k table at edges₀ entries words₀ r₀ edges words r =
-    (r ≤ smallFanins) × (length edges ≡ faninPlaces) × ((q : ℕ) → q < r → q < k → getD edges (at + q) 0 ≡ edgeTable k table q) × ((q : ℕ) → q < at → getD edges q 0 ≡ getD edges₀ q 0)
-    × (entries ≡ 2 ^ (2 ^ k) - 1) × (length words ≡ smallWords) × (r ≤ k → AtTurn k table words r)
+    (r ≤ smallFanins) × (length edges ≡ faninPlaces) × (k ≤ smallFanins → (q : ℕ) → q < r → q < k → getD edges (at + q) 0 ≡ edgeTable k table q)
+    × ((q : ℕ) → (q < at) ⊎ (at + gatePlaces ≤ q) → getD edges q 0 ≡ getD edges₀ q 0)
+    × (entries ≡ 2 ^ (2 ^ k) - 1) × (length words ≡ mostEntries) × (k ≤ smallFanins → r ≤ k → AtTurn k table words r)
 
 abbrev μ-loop : tie.MeasureT-loop
 μ-loop k table at edges₀ entries words₀ r₀ edges words r = smallFanins - r
@@ -38,7 +36,7 @@ mask-requires : tie.Need-mask-requires Inv-loop μ-loop
 mask-requires c κs =
     let k = c .args .k in
     let e : (1 * 2 ^ k) % 2 ^ 32 ≡ 2 ^ k = one-shl k 32 (omega arith) in
-    omega (arith, e, small-words k (omega arith))
+    omega (arith, e, entries-most k (omega arith))
 
 constants-requires : tie.Need-constants-requires Inv-loop μ-loop
 constants-requires c κs = search needs
@@ -49,11 +47,11 @@ loop-holds c =
     let a = s .args in (
       omega arith,
       s .pre .1,
-      λ q h l. absurd (omega arith),
+      λ few q h l. absurd (omega arith),
       λ q h. refl,
       c .before .mask .ensures .0 ∙ ap (λ (n : ℕ). 2 ^ n - 1) (one-shl (a .k) 32 (omega arith)),
       search needs,
-      λ h. at-turn-start (a .k) (a .table) (c .constants .result) (omega arith) (c .constants .ensures),
+      λ few h. at-turn-start smallFanins (a .k) (a .table) (c .constants .result) few (omega arith) (c .constants .ensures),
     )
 
 array-read-free : tie.Need-array-read-free Inv-loop μ-loop
@@ -77,7 +75,8 @@ shl-halve c = search needs
 halve-requires : tie.Need-halve-requires Inv-loop μ-loop
 halve-requires c κs =
     let l = c .before .before .loop in
-    (omega (arith, one-shl (smallFanins - 1 - l .r) 64 (omega arith), pow-mono {i = smallFanins - 1 - l .r} {j = smallFanins - 1} (omega arith)), l .inv .5)
+    let left = smallFanins - 1 - l .r in
+    (omega (arith, one-shl left 64 (omega arith), pow-mono {i = left} {j = mostFanins - 1} (omega arith)), l .inv .5)
 
 add-r : tie.Need-add-r Inv-loop μ-loop
 add-r c = search needs
@@ -93,16 +92,18 @@ loop-again c =
     let h : a .at + l .r < length (l .edges) = omega arith in (
       omega arith,
       simp length-set (l .inv .1),
-      filled-from (l .edges) (edgeTable (a .k) (a .table)) (a .at) (l .r) (a .k) free h (l .inv .2)
-          (λ lr. ap (bitAnd (getD (l .words) 1 0)) (l .inv .4) ∙ at-turn-edge (a .k) (a .table) (l .words) (l .r) lr (l .inv .6 (omega arith))),
-      λ q lq. getD-set-other (l .edges) (a .at + l .r) q free 0 (λ e. omega arith) ∙ l .inv .3 q lq,
+      λ few. filled-from (l .edges) (edgeTable (a .k) (a .table)) (a .at) (l .r) (a .k) free h (l .inv .2 few)
+          (λ lr. ap (bitAnd (getD (l .words) 1 0)) (l .inv .4) ∙ at-turn-edge (a .k) (a .table) (l .words) (l .r) lr (l .inv .6 few (omega arith))),
+      λ q lq. getD-set-other (l .edges) (a .at + l .r) q free 0 (λ e. ⊎-elim (λ b. omega arith) (λ b. omega arith) lq) ∙ l .inv .3 q lq,
       l .inv .4,
       c .halve .ensures .0,
-      λ lr. at-turn-next (a .k) (a .table) (l .words) (c .halve .last .0) (l .r) _ (omega arith) (half-room (a .k) (l .r) (omega arith) (omega arith)) (c .halve .ensures .1) (l .inv .6 (omega arith)),
+      λ few lr. at-turn-next (a .k) (a .table) (l .words) (c .halve .last .0) (l .r) _ (omega arith) (half-room smallFanins (a .k) (l .r) (omega arith) (omega arith) few) (c .halve .ensures .1) (l .inv .6 few (omega arith)),
     )
 
 returns : tie.Need-returns Inv-loop μ-loop
-returns c = (c .before .loop .inv .1, λ r h. c .before .loop .inv .2 r (omega arith) h, c .before .loop .inv .3)
+returns c =
+    let l = c .before .loop in
+    record { size = l .inv .1; own = λ few r h. l .inv .2 few r (omega arith) h; others = l .inv .3 }
 
 pub gate-edges-spec : {M : Type 1} → statement M
 gate-edges-spec =

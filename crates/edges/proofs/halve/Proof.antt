@@ -5,13 +5,13 @@ use Prim.Native.Nat.{_-_, _≤_}
 use native.Mathlib.Omega.{arith}
 use lib.ListN.{length, length-set}
 use denote.Ref.{now}
-use Rattle.bits.specs.Bounds.{smallWords}
+use Rattle.network.specs.Bounds.{mostEntries}
 use Rattle.edges.proofs.EdgeWords.{Halving, halved-step}
 use Rattle.edges.proofs.halve.Statement.{statement}
 use Rattle.edges.proofs.halve.Tie as tie
 
 abbrev Inv-loop : tie.InvT-loop
-Inv-loop words₀ size free h₀ words h = (h ≤ size) × (length words ≡ smallWords) × Halving words₀ words free h
+Inv-loop words₀ size free h₀ words h = (h ≤ size) × (length words ≡ mostEntries) × Halving words₀ words free h
 
 abbrev μ-loop : tie.MeasureT-loop
 μ-loop words₀ size free h₀ words h = size - h

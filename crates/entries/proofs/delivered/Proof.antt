@@ -8,7 +8,8 @@ use lib.ListN.{getD}
 use denote.Ref.{now}
 use Rattle.bits.specs.Range.{any}
 use Rattle.bits.specs.Bit.{bit, tableOf, gives}
-use Rattle.bits.proofs.Ranges.{table-room, table-step, any-ext}
+use Rattle.bits.proofs.Ranges.{small-words, table-room, table-step, any-ext}
+use Rattle.entries.specs.By.{deliveredBy}
 use Rattle.entries.proofs.delivered.Statement.{statement}
 use Rattle.entries.proofs.delivered.Tie as tie
 
@@ -34,7 +35,9 @@ mul-any-bit : tie.Need-mul-any-bit Inv-loop μ-loop
 mul-any-bit c = search needs
 
 array-read-any-bit : tie.Need-array-read-any-bit Inv-loop μ-loop
-array-read-any-bit c = search needs
+array-read-any-bit c =
+    let e = c .before .before .before .entry-count .ensures in
+    omega (arith, e .0, small-words (c .before .before .before .before .args .k) (omega arith))
 
 any-bit-requires : tie.Need-any-bit-requires Inv-loop μ-loop
 any-bit-requires c κs = search needs
@@ -64,6 +67,7 @@ loop-again c =
     )
 
 returns : tie.Need-returns Inv-loop μ-loop
+unfolding deliveredBy
 returns c =
     let s = c .before .before .before .before .args in
     let l = c .before .loop in

@@ -2,7 +2,7 @@
 use native.Mathlib.Omega.{arith}
 use mathlib.Core.Path.{refl}
 use Rattle.bits.proofs.Cuts.{one-shl}
-use Rattle.bits.proofs.Ranges.{small-words}
+use Rattle.bits.proofs.Ranges.{entries-most}
 use borrow.Author.Needs.{needs}
 use Rattle.entries.proofs.entry_count.Statement.{statement}
 use Rattle.entries.proofs.entry_count.Tie as tie
@@ -16,7 +16,7 @@ shl-result c = search needs
 returns : tie.Need-returns
 returns c =
     let k = c .args .k in
-    let few = small-words k (omega arith) in
+    let few = entries-most k (omega arith) in
     rw (one-shl k 32 (omega arith)) (refl, few)
 
 pub entry-count-spec : {M : Type 1} → statement M

@@ -1,45 +1,60 @@
 -- `entries::meets` meets its contract. Assumes nothing.
 use borrow.Author.Needs.{needs}
+use mathlib.Core.Path.{_≡_}
+use mathlib.Core.Bool.{_&&_}
+use Prim.Native.Nat.{ℕ, _^_, _≤_}
 use native.Mathlib.Omega.{arith}
+use lib.Dec.{eqb}
 use denote.Ref.{now}
 use Rattle.bits.specs.Bounds.{gatePlaces}
-use Rattle.bits.specs.Range.{places}
+use Rattle.bits.specs.Range.{places, any}
+use Rattle.bits.specs.Bit.{bit, tableOf, entryAt}
 use Rattle.bits.proofs.Ranges.{places-at}
+use Rattle.entries.specs.By.{deliveredBy}
 use Rattle.entries.proofs.Delivery.{by-equality}
 use Rattle.entries.proofs.meets.Statement.{statement}
 use Rattle.entries.proofs.meets.Tie as tie
+
+met : (s : tie.Start) (j r : ℕ) → s .args .k ≡ j → j ≤ gatePlaces → r ≡ deliveredBy j (now (s .args .ins)) (places gatePlaces (λ i. 0)) (s .args .keep)
+    → r ≡ tableOf (2 ^ s .args .k) (λ t. any 64 (λ b. bit (s .args .keep) b && eqb (entryAt (s .args .k) (now (s .args .ins)) b) t))
+met s j r e few given =
+    by-equality (s .args .k) j (now (s .args .ins)) (places gatePlaces (λ i. 0)) (s .args .keep) r e given (λ i h. places-at 0 gatePlaces (λ i. 0) i (omega arith))
 
 delivered-requires : tie.Need-delivered-requires
 delivered-requires c κs = search needs
 
 returns : tie.Need-returns
-returns c =
-    let s = c .before .before .before .args in
-    by-equality (s .k) 1 (now (s .ins)) (places gatePlaces (λ i. 0)) (s .keep) (c .delivered .result) (omega arith) (c .delivered .ensures) (λ i h. places-at 0 gatePlaces (λ i. 0) i (omega arith))
+returns c = met (c .before .before .before) 1 _ (omega arith) (omega arith) (c .delivered .ensures)
 
 delivered-requires-2 : tie.Need-delivered-requires-2
 delivered-requires-2 c κs = search needs
 
 returns-2 : tie.Need-returns-2
-returns-2 c =
-    let s = c .before .before .before .before .args in
-    by-equality (s .k) 2 (now (s .ins)) (places gatePlaces (λ i. 0)) (s .keep) (c .delivered2 .result) (omega arith) (c .delivered2 .ensures) (λ i h. places-at 0 gatePlaces (λ i. 0) i (omega arith))
+returns-2 c = met (c .before .before .before .before) 2 _ (omega arith) (omega arith) (c .delivered2 .ensures)
 
 delivered-requires-3 : tie.Need-delivered-requires-3
 delivered-requires-3 c κs = search needs
 
 returns-3 : tie.Need-returns-3
-returns-3 c =
-    let s = c .before .before .before .before .before .args in
-    by-equality (s .k) 3 (now (s .ins)) (places gatePlaces (λ i. 0)) (s .keep) (c .delivered3 .result) (omega arith) (c .delivered3 .ensures) (λ i h. places-at 0 gatePlaces (λ i. 0) i (omega arith))
+returns-3 c = met (c .before .before .before .before .before) 3 _ (omega arith) (omega arith) (c .delivered3 .ensures)
 
 delivered-requires-4 : tie.Need-delivered-requires-4
 delivered-requires-4 c κs = search needs
 
 returns-4 : tie.Need-returns-4
-returns-4 c =
-    let s = c .before .before .before .before .before .args in
-    by-equality (s .k) 4 (now (s .ins)) (places gatePlaces (λ i. 0)) (s .keep) (c .delivered4 .result) (omega arith) (c .delivered4 .ensures) (λ i h. places-at 0 gatePlaces (λ i. 0) i (omega arith))
+returns-4 c = met (c .before .before .before .before .before .before) 4 _ (omega arith) (omega arith) (c .delivered4 .ensures)
+
+delivered5-requires : tie.Need-delivered5-requires
+delivered5-requires c κs = search needs
+
+returns-5 : tie.Need-returns-5
+returns-5 c = met (c .before .before .before .before .before .before .before) 5 _ (omega arith) (omega arith) (c .delivered5 .ensures)
+
+delivered6-requires : tie.Need-delivered6-requires
+delivered6-requires c κs = search needs
+
+returns-6 : tie.Need-returns-6
+returns-6 c = met (c .before .before .before .before .before .before .before) 6 _ (omega arith) (omega arith) (c .delivered6 .ensures)
 
 pub meets-spec : {M : Type 1} → statement M
 meets-spec =
@@ -52,4 +67,8 @@ meets-spec =
     delivered-requires-3
     returns-3
     delivered-requires-4
-    returns-4)
+    returns-4
+    delivered5-requires
+    returns-5
+    delivered6-requires
+    returns-6)

@@ -35,8 +35,24 @@ delivered-requires-4 c κs = search needs
 
 returns-4 : tie.Need-returns-4
 returns-4 c =
-    let s = c .before .before .before .before .args in
+    let s = c .before .before .before .before .before .args in
     by-agreement (s .k) 4 (now (s .ins)) (now (s .frees)) (s .keep) (c .delivered4 .result) (omega arith) (c .delivered4 .ensures)
+
+delivered5-requires : tie.Need-delivered5-requires
+delivered5-requires c κs = search needs
+
+returns-5 : tie.Need-returns-5
+returns-5 c =
+    let s = c .before .before .before .before .before .before .before .before .args in
+    by-agreement (s .k) 5 (now (s .ins)) (now (s .frees)) (s .keep) (c .delivered5 .result) (omega arith) (c .delivered5 .ensures)
+
+delivered6-requires : tie.Need-delivered6-requires
+delivered6-requires c κs = search needs
+
+returns-6 : tie.Need-returns-6
+returns-6 c =
+    let s = c .before .before .before .before .before .before .before .before .args in
+    by-agreement (s .k) 6 (now (s .ins)) (now (s .frees)) (s .keep) (c .delivered6 .result) (omega arith) (c .delivered6 .ensures)
 
 pub reach-spec : {M : Type 1} → statement M
 reach-spec =
@@ -49,4 +65,8 @@ reach-spec =
     delivered-requires-3
     returns-3
     delivered-requires-4
-    returns-4)
+    returns-4
+    delivered5-requires
+    returns-5
+    delivered6-requires
+    returns-6)
