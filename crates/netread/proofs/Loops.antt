@@ -11,7 +11,8 @@ use Rattle.network.specs.declared.Refusal.{Refusal}
 use Rattle.network.specs.declared.Refusal.the-variants.{TrailingBytes}
 use Rattle.network.specs.declared.Answer.{Answer}
 use Rattle.network.specs.declared.Answer.the-variants.{Done, Refused}
-use Rattle.network.specs.Load.{loadDone, loadRefused, onward, outputRecord, withOutput, readOutputs, faninsIn, tableIn, afterFanins, gateRecord, withGate, readGates}
+use Rattle.network.specs.Load.{loadDone, loadRefused, onward, littleEndian, outputRecord, withOutput, readOutputs, formOf, gateRecord, withGate, readGates}
+use Rattle.network.specs.Write.{formFor}
 use Rattle.netread.proofs.Steps.{tail-part}
 use Rattle.netread.proofs.Records.{on, stop, WholeGate, whole-gate, whole-output}
 
@@ -56,47 +57,45 @@ module _ (rest : List ℕ) (p : ℕ) (u : Session) (at i signals : ℕ) (few : u
       rw (q, lt-leb 1 (length (drop at rest)) k)
 
 module _ (rest : List ℕ) (m : ℕ) (u : Session) (at g n : ℕ) (same : u .n ≡ n) where
-  -- the session with the record that stands at `at`
+  -- k of the record that stands at `at`, and the bytes of its table
+  abbrev pub arity : ℕ
+  arity = getD (drop at rest) 2 0
+
+  abbrev pub size : ℕ
+  size = formFor arity .bytes
+
+  -- the session with this record
   abbrev pub taken : Session
-  taken = withGate u g (getD (drop at rest) 2 0) (faninsIn (drop at rest)) (tableIn (drop at rest))
+  taken = withGate u g arity (take arity (drop 3 (drop at rest))) (littleEndian (take size (drop (3 + arity) (drop at rest))))
 
-  gate-after : drop (at + 5 + getD rest (at + 2) 0) rest ≡ drop 2 (afterFanins (drop at rest))
-  gate-after =
-      let k = getD rest (at + 2) 0 in
-      let e : getD (drop at rest) 2 0 ≡ k = getD-drop at rest 2 0 in
-      let q : at + 5 + k ≡ at + 3 + k + 2 = omega arith in
-      rw (e, q, drop-drop 3 at rest, drop-drop k (at + 3) rest, drop-drop 2 (at + 3 + k) rest)
-
-  gate-step : g < m
-      → onward (gateRecord (n + g) (drop at rest)) (readGates (m - (g + 1)) (g + 1) taken (drop (at + 5 + getD rest (at + 2) 0) rest))
+  gate-step : g < m → formOf (drop at rest) ≡ formFor arity
+      → onward (gateRecord (n + g) (drop at rest)) (readGates (m - (g + 1)) (g + 1) taken (drop (at + (3 + arity + size)) rest))
       ≡ readGates (m - g) g u (drop at rest)
   unfolding readGates
-  gate-step h =
+  gate-step h form =
       let q : m - g ≡ suc (m - (g + 1)) = omega arith in
-      rw (q, same, gate-after)
+      rw (q, same, form, ← drop-drop (3 + arity + size) at rest, ← drop-drop size (3 + arity) (drop at rest), ← drop-drop arity 3 (drop at rest))
 
   module _ (a : Answer) (e : a ≡ gateRecord (n + g) (take (length rest - at) (drop at rest))) where
     gate-there : gateRecord (n + g) (drop at rest) ≡ a
     gate-there = sym (rw tail-part at e)
 
-    -- the record lies before the end
-    pub gate-room : at ≤ length rest → a ≡ Done → at + 5 + getD rest (at + 2) 0 ≤ length rest
-    gate-room b z =
-        let w = whole-gate (n + g) (drop at rest) (gate-there ∙ z) in
-        let k : getD (drop at rest) 2 0 ≡ getD rest (at + 2) 0 = getD-drop at rest 2 0 in
-        let l = length-drop at rest in
-        let c = w .long in
-        omega arith
+    whole : a ≡ Done → WholeGate (drop at rest)
+    whole z = whole-gate (n + g) (drop at rest) (gate-there ∙ z)
 
-    pub gate-whole : a ≡ Done → WholeGate (take (length rest - at) (drop at rest))
-    gate-whole z = rw tail-part (whole-gate (n + g) (drop at rest) (gate-there ∙ z))
+    -- the record is whole, and what is lent ends with the file
+    pub gate-whole : at ≤ length rest → a ≡ Done → WholeGate (take (length rest - at) (drop at rest)) × (at + length (take (length rest - at) (drop at rest)) ≡ length rest)
+    gate-whole b z = (rw tail-part (whole z), rw tail-part (simp length-drop (omega arith)))
 
     pub gate-next : g < m → a ≡ Done
-        → readGates (m - (g + 1)) (g + 1) taken (drop (at + 5 + getD rest (at + 2) 0) rest) ≡ readGates (m - g) g u (drop at rest)
-    gate-next h z = on (gateRecord (n + g) (drop at rest)) _ (gate-there ∙ z) ∙ gate-step h
+        → readGates (m - (g + 1)) (g + 1) taken (drop (at + (3 + arity + size)) rest) ≡ readGates (m - g) g u (drop at rest)
+    gate-next h z = on (gateRecord (n + g) (drop at rest)) _ (gate-there ∙ z) ∙ gate-step h (whole z .form)
 
     pub gate-refused : (r : Refusal) → g < m → a ≡ Refused r → loadRefused r ≡ readGates (m - g) g u (drop at rest)
-    gate-refused r h z = stop (gateRecord (n + g) (drop at rest)) r _ (gate-there ∙ z) ∙ gate-step h
+    unfolding readGates
+    gate-refused r h z =
+        let q : m - g ≡ suc (m - (g + 1)) = omega arith in
+        rw (q, same, gate-there ∙ z)
 
   pub gates-last : m ≤ g → readOutputs (u .p) 0 u (take (length rest - at) (drop at rest)) ≡ readGates (m - g) g u (drop at rest)
   unfolding readGates

@@ -1,87 +1,128 @@
--- A mark is the one that is due exactly where it opens the kind of record that is due. Assumes nothing.
+-- A mark is the one that is due exactly where it opens the kind of record that is due. The laws go over the list of marks. Assumes nothing.
 use mathlib.Core.Path.{_≡_, refl, sym, ap, _∙_, subst}
-use mathlib.Core.Bool.{Bool, true, false, not, cond}
-use mathlib.Core.List.{List}
-use Prim.Native.Nat.{ℕ, _≤_, _<_}
+use mathlib.Core.Bool.{Bool, true, false, not, cond, _&&_}
+use mathlib.Core.List.{List, [], _∷_, map}
+use Prim.Native.Nat.{ℕ, suc, _≤_, _<_}
 use native.Mathlib.Omega.{arith}
 use native.Mathlib.Decide.{decLt}
-use lib.Dec.{T, ltb, eqb}
+use lib.Dec.{T, leb, ltb, eqb}
 use lib.ListN.{length}
-use borrow.Author.Tests.{lt-ltb, le-ltb, le-leb, lt-leb, eq-eqb, ne-eqb, eqb-true}
+use borrow.Author.Tests.{lt-ltb, le-ltb, le-leb, lt-leb, eq-eqb, ne-eqb, eqb-true, ltb-true}
 use denote.Enum.Declared.{tagOf}
 use types.Run.{OneOf, miss}
 use mir.Val.{hasKey}
+use Rattle.bits.specs.Range.{upFrom}
+use Rattle.bits.proofs.Ranges.{and-l, and-r, by-cases, every-e}
 use Rattle.network.specs.declared.Refusal.the-variants.{Truncated, UnexpectedMark}
 use Rattle.network.specs.declared.Answer.the-variants as answer
 use Rattle.network.specs.Tests.{refuseIf, mark, markTest}
-use Rattle.network.specs.Load.{isExcluded}
 use Rattle.network.proofs.TestLaws.{mark-i}
 use Rattle.netread.specs.declared.Kind.{Kind}
 use Rattle.netread.proofs.Kind.{the-type}
-use Rattle.netread.specs.declared.Kind.the-variants.{Header, Excluded, Gate, Output, Refused}
-use Rattle.netread.specs.Kind.{kindOf, kindAt, notDue}
+use Rattle.netread.specs.declared.Kind.the-variants.{Header, Excluded, Gate, WideGate, Output, Refused}
+use Rattle.netread.specs.Kind.{marks, kindIn, kindOf, kindAt, notDue}
+
+-- ## Kinds
 
 abbrev pub tag : Kind → ℕ
 tag k = tagOf the-type k
 
--- the mark of each kind
-abbrev pub markOf : Kind → ℕ
-markOf Header = 0x4E49
-markOf Excluded = 0x4E58
-markOf Gate = 0x4E47
-markOf Output = 0x4E4F
-markOf (Refused r) = 0
+-- a kind of record, and no refusal, which is the last kind
+abbrev pub Record : Kind → Type 0
+Record k = tag k < tag (Refused Truncated)
 
-abbrev four : (a b c d : Bool) → Kind
-four a b c d = cond a Header (cond b Excluded (cond c Gate (cond d Output (Refused UnexpectedMark))))
-
-refuse : (a b c d : Bool) → UnexpectedMark ≡ notDue (four a b c d)
-refuse true b c d = refl
-refuse false true c d = refl
-refuse false false true d = refl
-refuse false false false true = refl
-refuse false false false false = refl
-
--- the four kinds have their marks
-module _ (x : ℕ) where
-  marked : (a b c d : Bool) → eqb x 0x4E49 ≡ a → eqb x 0x4E58 ≡ b → eqb x 0x4E47 ≡ c → eqb x 0x4E4F ≡ d → tag (four a b c d) < 4 → x ≡ markOf (four a b c d)
-  marked true b c d p q r s h = eqb-true x 0x4E49 p
-  marked false true c d p q r s h = eqb-true x 0x4E58 q
-  marked false false true d p q r s h = eqb-true x 0x4E47 r
-  marked false false false true p q r s h = eqb-true x 0x4E4F s
-  marked false false false false p q r s h = let z : ⊥ = omega arith in absurd z
-
-  mark-of : tag (kindOf x) < 4 → x ≡ markOf (kindOf x)
-  unfolding kindOf
-  mark-of h = marked (eqb x 0x4E49) (eqb x 0x4E58) (eqb x 0x4E47) (eqb x 0x4E4F) refl refl refl refl h
-
-  other : UnexpectedMark ≡ notDue (kindOf x)
-  unfolding kindOf
-  other = refuse (eqb x 0x4E49) (eqb x 0x4E58) (eqb x 0x4E47) (eqb x 0x4E4F)
-
-pub unexpected : (k : Kind) → (tag k ≡ 4 → ⊥) → UnexpectedMark ≡ notDue k
+pub unexpected : (k : Kind) → (tag k ≡ tag (Refused Truncated) → ⊥) → UnexpectedMark ≡ notDue k
 unexpected Header h = refl
 unexpected Excluded h = refl
 unexpected Gate h = refl
+unexpected WideGate h = refl
 unexpected Output h = refl
 unexpected (Refused r) h = let z : ⊥ = h refl in absurd z
 
--- a mark that opens no record
-pub none : (x : ℕ) → (x ≡ 0x4E49 → ⊥) → (x ≡ 0x4E58 → ⊥) → (x ≡ 0x4E47 → ⊥) → (x ≡ 0x4E4F → ⊥) → Refused UnexpectedMark ≡ kindOf x
-unfolding kindOf
-none x p q r s = rw (ne-eqb x 0x4E49 p, ne-eqb x 0x4E58 q, ne-eqb x 0x4E47 r, ne-eqb x 0x4E4F s)
+-- the tags ts without those of the kinds ks
+abbrev without : List Kind → List ℕ → List ℕ
+without ks [] = []
+without ks (t ∷ ts) = cond (hasKey (map tag ks) t) (without ks ts) (t ∷ without ks ts)
 
-own : (d : Kind) → tag d < 4 → kindOf (markOf d) ≡ d
-unfolding kindOf
-own Header h = refl
-own Excluded h = refl
-own Gate h = refl
-own Output h = refl
-own (Refused r) h = let z : ⊥ = omega arith in absurd z
+-- the tags of all other kinds, by which control comes to the last arm of a match
+abbrev pub others : List Kind → List ℕ
+others ks = without ks (upFrom 0 (suc (tag (Refused Truncated))))
 
--- a kind that comes by one of the keys ks of a match
-pub apart : (ks : List ℕ) (x d : ℕ) → T (not (hasKey ks d)) → OneOf ks x → x ≡ d → ⊥
-apart ks x d t h e = miss ks d t (subst (OneOf ks) e h)
+pub apart : (ks : List Kind) (x d : ℕ) → T (not (hasKey (others ks) d)) → OneOf (others ks) x → x ≡ d → ⊥
+apart ks x d t h e = miss (others ks) d t (subst (OneOf (others ks)) e h)
+
+-- ## The list of marks
+
+-- the mark of the kind with tag t
+abbrev markIn : List (ℕ × Kind) → ℕ → ℕ
+markIn [] t = 0
+markIn (m ∷ ms) t = cond (eqb (tag (m .1)) t) (m .0) (markIn ms t)
+
+abbrev pub markOf : Kind → ℕ
+markOf k = markIn marks (tag k)
+
+-- the mark opens a record, whose kind has this mark
+abbrev fits : ℕ × Kind → Bool
+fits m = ltb (tag (m .1)) (tag (Refused Truncated)) && eqb (markOf (m .1)) (m .0)
+
+abbrev all-fit : List (ℕ × Kind) → Bool
+all-fit [] = true
+all-fit (m ∷ ms) = fits m && all-fit ms
+
+fitting : (m : ℕ × Kind) → fits m ≡ true → Record (m .1) × (markOf (m .1) ≡ m .0)
+fitting m h =
+    let r = ltb (tag (m .1)) (tag (Refused Truncated)) in
+    let e = eqb (markOf (m .1)) (m .0) in
+    (ltb-true (tag (m .1)) (tag (Refused Truncated)) (and-l r e h), eqb-true (markOf (m .1)) (m .0) (and-r r e h))
+
+-- each kind of record has a mark, which opens it
+own : (d : Kind) → Record d → tag (kindOf (markOf d)) ≡ tag d
+unfolding kindOf
+own d h = eqb-true _ _ (every-e (tag (Refused Truncated)) (λ t. eqb (tag (kindOf (markIn marks t))) t) refl (tag d) h)
+
+module _ (x : ℕ) where
+  marked : (ms : List (ℕ × Kind)) → all-fit ms ≡ true → Record (kindIn ms x) → x ≡ markOf (kindIn ms x)
+  marked [] s h = let z : ⊥ = omega arith in absurd z
+  marked (m ∷ ms) s h =
+      by-cases (eqb x (m .0))
+      (λ e. rw e (eqb-true x (m .0) e ∙ sym (fitting m (and-l (fits m) (all-fit ms) s) .1)))
+      (λ e. rw e (marked ms (and-r (fits m) (all-fit ms) s) (rw e at h)))
+
+  mark-of : Record (kindOf x) → x ≡ markOf (kindOf x)
+  unfolding kindOf
+  mark-of h = marked marks refl h
+
+  refuse : (ms : List (ℕ × Kind)) → all-fit ms ≡ true → UnexpectedMark ≡ notDue (kindIn ms x)
+  refuse [] s = refl
+  refuse (m ∷ ms) s =
+      let l = fitting m (and-l (fits m) (all-fit ms) s) .0 in
+      by-cases (eqb x (m .0)) (λ e. rw e (unexpected (m .1) (λ q. omega arith))) (λ e. rw e (refuse ms (and-r (fits m) (all-fit ms) s)))
+
+  other : UnexpectedMark ≡ notDue (kindOf x)
+  unfolding kindOf
+  other = refuse marks refl
+
+  -- x is none of the marks, as a match on it says
+  abbrev Missed : Type 0 → List (ℕ × Kind) → Type 0
+  Missed N [] = N
+  Missed N (m ∷ ms) = Missed (N × (x ≡ m .0 → ⊥)) ms
+
+  earlier : (N : Type 0) (ms : List (ℕ × Kind)) → Missed N ms → N
+  earlier N [] h = h
+  earlier N (m ∷ ms) h = earlier (N × (x ≡ m .0 → ⊥)) ms h .0
+
+  no-mark : (N : Type 0) (ms : List (ℕ × Kind)) → Missed N ms → Refused UnexpectedMark ≡ kindIn ms x
+  no-mark N [] h = refl
+  no-mark N (m ∷ ms) h =
+      let M = N × (x ≡ m .0 → ⊥) in
+      rw (ne-eqb x (m .0) (earlier M ms h .1)) (no-mark M ms h)
+
+  -- a mark that opens no record
+  pub none : (N : Type 0) → Missed N marks → Refused UnexpectedMark ≡ kindOf x
+  unfolding kindOf
+  none N h = no-mark N marks h
+
+-- ## What is left
 
 module _ (rest : List ℕ) where
   pub short : length rest < 2 → Refused Truncated ≡ kindAt rest
@@ -97,48 +138,44 @@ module _ (rest : List ℕ) where
   by-key x r k e h = ap kindOf (sym k ∙ e) ∙ long h
 
   -- a kind that is no refusal has its mark
-  pub opens : (k : Kind) → k ≡ kindAt rest → tag k < 4 → (2 ≤ length rest) × (mark rest ≡ markOf k)
+  opens : (k : Kind) → k ≡ kindAt rest → Record k → (2 ≤ length rest) × (mark rest ≡ markOf k)
   opens k e h = go (decLt (length rest) 2)
     where
       go : Dec (length rest < 2) → (2 ≤ length rest) × (mark rest ≡ markOf k)
       go (yes l) =
           let q : k ≡ Refused Truncated = e ∙ sym (short l) in
-          let z : tag (Refused Truncated) < 4 = rw q at h in
+          let z : Record (Refused Truncated) = rw q at h in
           let y : ⊥ = omega arith in absurd y
       go (no l) =
           let q : k ≡ kindOf (mark rest) = e ∙ sym (long (omega arith)) in
           (omega arith, rw q (mark-of (mark rest) (rw q at h)))
 
   -- the kind that is due
-  pub is-due : (k d : Kind) → k ≡ kindAt rest → k ≡ d → tag d < 4 → markTest (markOf d) rest ≡ answer.Done
-  is-due k d e q h =
-      let o = opens d (sym q ∙ e) h in
-      mark-i (markOf d) rest (o .0) (o .1)
+  module _ (k d : Kind) (e : k ≡ kindAt rest) (q : k ≡ d) (h : Record d) where
+    pub is-due : markTest (markOf d) rest ≡ answer.Done
+    is-due = let o = opens d (sym q ∙ e) h in mark-i (markOf d) rest (o .0) (o .1)
+
+    pub is-marked : (leb 2 (length rest) && eqb (mark rest) (markOf d)) ≡ true
+    is-marked = let o = opens d (sym q ∙ e) h in rw (le-leb 2 (length rest) (o .0), eq-eqb (mark rest) (markOf d) (o .1))
 
   -- another kind than the one that is due
-  pub not-due : (k d : Kind) → k ≡ kindAt rest → tag d < 4 → (tag k ≡ tag d → ⊥) → markTest (markOf d) rest ≡ answer.Refused (notDue k)
-  unfolding markTest
-  not-due k d e m h = go (decLt (length rest) 2)
-    where
-      go : Dec (length rest < 2) → cond (ltb (length rest) 2) (answer.Refused Truncated) (refuseIf (not (eqb (mark rest) (markOf d))) UnexpectedMark) ≡ answer.Refused (notDue k)
-      go (yes l) = rw (e, ← short l, lt-ltb (length rest) 2 l)
-      go (no l) =
-          let q : k ≡ kindOf (mark rest) = e ∙ sym (long (omega arith)) in
-          let n : mark rest ≡ markOf d → ⊥ = λ s. h (ap tag (q ∙ ap kindOf s ∙ own d m)) in
-          rw (q, ← other (mark rest), le-ltb (length rest) 2 (omega arith), ne-eqb (mark rest) (markOf d) n)
+  module _ (k d : Kind) (e : k ≡ kindAt rest) (m : Record d) (h : tag k ≡ tag d → ⊥) where
+    differs : 2 ≤ length rest → mark rest ≡ markOf d → ⊥
+    differs l s = h (ap tag (e ∙ sym (long l) ∙ ap kindOf s) ∙ own d m)
 
-  -- the excluded record
-  pub is-excluded : Excluded ≡ kindAt rest → isExcluded rest ≡ true
-  is-excluded e =
-      let o = opens Excluded e (omega arith) in
-      rw (le-leb 2 (length rest) (o .0), eq-eqb (mark rest) 0x4E58 (o .1))
+    pub not-due : markTest (markOf d) rest ≡ answer.Refused (notDue k)
+    unfolding markTest
+    not-due = go (decLt (length rest) 2)
+      where
+        go : Dec (length rest < 2) → cond (ltb (length rest) 2) (answer.Refused Truncated) (refuseIf (not (eqb (mark rest) (markOf d))) UnexpectedMark) ≡ answer.Refused (notDue k)
+        go (yes l) = rw (e, ← short l, lt-ltb (length rest) 2 l)
+        go (no l) =
+            let q : k ≡ kindOf (mark rest) = e ∙ sym (long (omega arith)) in
+            rw (q, ← other (mark rest), le-ltb (length rest) 2 (omega arith), ne-eqb (mark rest) (markOf d) (differs (omega arith)))
 
-  pub not-excluded : (k : Kind) → k ≡ kindAt rest → (tag k ≡ 1 → ⊥) → isExcluded rest ≡ false
-  not-excluded k e h = go (decLt (length rest) 2)
-    where
-      go : Dec (length rest < 2) → isExcluded rest ≡ false
-      go (yes l) = rw (lt-leb 2 (length rest) l)
-      go (no l) =
-          let q : k ≡ kindOf (mark rest) = e ∙ sym (long (omega arith)) in
-          let n : mark rest ≡ 0x4E58 → ⊥ = λ s. h (ap tag (q ∙ ap kindOf s ∙ own Excluded (omega arith))) in
-          rw (le-leb 2 (length rest) (omega arith), ne-eqb (mark rest) 0x4E58 n)
+    pub not-marked : (leb 2 (length rest) && eqb (mark rest) (markOf d)) ≡ false
+    not-marked = go (decLt (length rest) 2)
+      where
+        go : Dec (length rest < 2) → (leb 2 (length rest) && eqb (mark rest) (markOf d)) ≡ false
+        go (yes l) = rw (lt-leb 2 (length rest) l)
+        go (no l) = rw (le-leb 2 (length rest) (omega arith), ne-eqb (mark rest) (markOf d) (differs (omega arith)))

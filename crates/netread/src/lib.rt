@@ -2,28 +2,35 @@
 ghost use mathlib.Core.Path.{_≡_};
 ghost use mathlib.Core.Bool.{true};
 ghost use Prim.Native.Nat.{_+_, _<_, _≤_};
-ghost use lib.ListN.{length, getD, take, drop};
+ghost use lib.ListN.{length, take, drop};
 ghost use lib.Seq.{sets};
 ghost use Rattle.bits.specs.Bounds.{mostInputs};
 ghost use Rattle.network.specs.Bounds.{mostGates, mostOutputs, mostFanins, faninPlaces, excludedWords};
 ghost use Rattle.network.specs.Tests.{first};
 ghost use Rattle.network.specs.Tests as tests;
-ghost use Rattle.network.specs.Load.{littleEndian, isExcluded, headerRecord, gateTests, gateRecord, outputRecord, wordsFrom, readOutputs, readGates, readBody, readOf};
-ghost use Rattle.netread.specs.Kind.{kindAt, notDue};
+ghost use Rattle.network.specs.Load.{littleEndian, isExcluded, headerRecord, gateRecord, outputRecord, wordsFrom, readOutputs, readGates, readBody, readOf};
+ghost use Rattle.network.specs.Write.{formFor};
+ghost use Rattle.netread.specs.Kind.{kindAt, notDue, fieldTests};
 use bits::GATE_PLACES;
 use network::Answer;
 use network::EXCLUDED_WORDS;
 use network::FANIN_PLACES;
 use network::Loaded;
 use network::MOST_FANINS;
+use network::NARROW_BYTES;
+use network::NARROW_LEAST;
+use network::NARROW_MOST;
 use network::Refusal;
 use network::Session;
+use network::WIDE_BYTES;
+use network::WIDE_LEAST;
 
 // What opens the bytes that are left: a record of a kind, or a refusal.
 pub enum Kind {
     Header,
     Excluded,
     Gate,
+    WideGate,
     Output,
     Refused(Refusal),
 }
@@ -54,6 +61,7 @@ fn kind_at(rest: &[u8]) -> Kind
         0x4E49 => Kind::Header,
         0x4E58 => Kind::Excluded,
         0x4E47 => Kind::Gate,
+        0x4E48 => Kind::WideGate,
         0x4E4F => Kind::Output,
         _ => Kind::Refused(Refusal::UnexpectedMark),
     }
@@ -85,13 +93,23 @@ fn word(bs: &[u8]) -> u64
     w
 }
 
-// The two bytes at e as a number.
-fn table(rest: &[u8], e: usize) -> u64
-    requires { ⌜ e + 2 ≤ length (now rest) ⌝ }
-    ensures { λ r. ⌜ r ≡ littleEndian (take 2 (drop e (now (rest .entry)))) ⌝ }
+// A table of so many bytes, from e on.
+fn table(rest: &[u8], e: usize, bytes: usize) -> u64
+    requires { ⌜ (bytes ≤ 8) × (e + bytes ≤ length (now rest)) ⌝ }
+    ensures { λ r. ⌜ r ≡ littleEndian (take bytes (drop e (now (rest .entry)))) ⌝ }
 {
-    let f = e + 2;
+    let f = e + bytes;
     word(&rest[e..f])
+}
+
+// How many bytes the table of k fan-ins has.
+fn table_bytes(k: u8) -> usize
+    ensures { λ r. ⌜ (r ≡ formFor k .bytes) × (r ≤ 8) ⌝ }
+{
+    if (k as usize) <= NARROW_MOST {
+        return NARROW_BYTES;
+    }
+    WIDE_BYTES
 }
 
 // The eight bytes at `at` as a number; what is missing counts as 0.
@@ -135,39 +153,40 @@ fn header_record(rest: &[u8]) -> Answer
     state::counts_test(rest[2], rest[3], rest[4])
 }
 
-// The tests of a gate record from the rest of its length on: length, fan-ins, table.
-fn gate_fields(rest: &[u8], limit: u8) -> Answer
-    requires { ⌜ (getD (now rest) 2 0 ≤ mostFanins) × (3 ≤ length (now rest)) ⌝ }
-    ensures { λ r. ⌜ r ≡ first (drop 3 (gateTests limit (now (rest .entry)))) ⌝ }
+// The tests of a gate record behind its mark: length up to k, k, the rest of the length, fan-ins, table.
+fn gate_fields(rest: &[u8], limit: u8, least: usize, most: usize, bytes: usize) -> Answer
+    requires { ⌜ (most ≤ mostFanins) × (bytes ≤ 8) ⌝ }
+    ensures { λ r. ⌜ r ≡ first (fieldTests least most bytes limit (now (rest .entry))) ⌝ }
 {
-    let k = rest[2];
-    let e = 3 + (k as usize);
-    if rest.len() < e + 2 {
+    if rest.len() < 3 {
         return Answer::Refused(Refusal::Truncated);
     }
-    let a = state::fanins_test(&rest[3..e], limit);
+    let k = rest[2];
+    let a = state::range_test(least, most, k);
     if let Answer::Refused(_) = a {
         return a;
     }
-    state::table_test(k, table(rest, e))
+    let e = 3 + (k as usize);
+    if rest.len() < e + bytes {
+        return Answer::Refused(Refusal::Truncated);
+    }
+    let b = state::fanins_test(&rest[3..e], limit);
+    if let Answer::Refused(_) = b {
+        return b;
+    }
+    state::table_test(k, table(rest, e, bytes))
 }
 
-// The tests of a gate record: mark, length up to k, k, and the rest.
+// The tests of a gate record: the mark decides its form.
 fn gate_record(rest: &[u8], limit: u8) -> Answer
     ensures { λ r. ⌜ r ≡ gateRecord limit (now (rest .entry)) ⌝ }
 {
     let kind = kind_at(rest);
-    let Kind::Gate = kind else {
-        return Answer::Refused(not_due(kind));
-    };
-    if rest.len() < 3 {
-        return Answer::Refused(Refusal::Truncated);
+    match kind {
+        Kind::Gate => gate_fields(rest, limit, NARROW_LEAST, NARROW_MOST, NARROW_BYTES),
+        Kind::WideGate => gate_fields(rest, limit, WIDE_LEAST, MOST_FANINS, WIDE_BYTES),
+        _ => Answer::Refused(not_due(kind)),
     }
-    let a = state::count_test(MOST_FANINS, rest[2]);
-    if let Answer::Refused(_) = a {
-        return a;
-    }
-    gate_fields(rest, limit)
 }
 
 // The tests of an output record: mark, length, signal.
@@ -227,15 +246,6 @@ fn outputs(t: Session, rest: &[u8]) -> Loaded
     }
 }
 
-// Where the gate record at `at` ends.
-fn gate_end(rest: &[u8], at: usize) -> usize
-    requires { ⌜ at + 5 + getD (now rest) (at + 2) 0 ≤ length (now rest) ⌝ }
-    ensures { λ r. ⌜ r ≡ at + 5 + getD (now (rest .entry)) (at + 2) 0 ⌝ }
-{
-    let x = at + 2;
-    at + 5 + network::place(rest[x])
-}
-
 // The gates, then the outputs.
 fn gates(t: Session, rest: &[u8]) -> Loaded
     requires { ⌜ (t .n ≤ mostInputs) × (t .m ≤ mostGates) × (t .p ≤ mostOutputs) ⌝ }
@@ -255,14 +265,15 @@ fn gates(t: Session, rest: &[u8]) -> Loaded
         let i = g as usize;
         let k = part[2];
         let e = 3 + (k as usize);
-        let w = table(part, e);
+        let z = table_bytes(k);
+        let w = table(part, e, z);
         let f = u.fanins;
         let b = put_fanins(f, GATE_PLACES * i, &part[3..e]);
         u.arity[i] = k;
         u.fanins = b;
         u.loaded[i] = w;
         u.current[i] = w;
-        at = gate_end(rest, at);
+        at += e + z;
         g += 1;
     }
     outputs(u, &rest[at..])

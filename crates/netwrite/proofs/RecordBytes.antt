@@ -2,7 +2,7 @@
 use mathlib.Core.Path.{_≡_, refl, ap, _∙_}
 use mathlib.Core.Bool.{true, false}
 use mathlib.Core.List.{List, [], _∷_, _++_}
-use Prim.Native.Nat.{ℕ, zero, suc, _+_, _*_, _-_, _≤_, _<_}
+use Prim.Native.Nat.{ℕ, zero, suc, _+_, _*_, _-_, _%_, _≤_, _<_}
 use native.Mathlib.Numerals.{add-one}
 use native.Mathlib.Omega.{arith}
 use lib.Dec.{eqb}
@@ -11,14 +11,14 @@ use lib.Seq.{take-append-add, drop-cons, length-take-le}
 use Rattle.bits.specs.Bounds.{gatePlaces}
 use Rattle.bits.specs.Lists.{bytesIn}
 use Rattle.bits.proofs.Ranges.{length-places}
-use Rattle.bits.proofs.Bytes.{take-bytes}
+use Rattle.bits.proofs.Bytes.{length-bytes, take-bytes}
 use Rattle.buffer.specs.Laid.{Laid}
 use Rattle.buffer.proofs.Laying.{Pending, pending-start, pending-step, laid-append, part-places}
 use Rattle.network.specs.declared.Session.{Session}
 use Rattle.network.specs.Bounds.{excludedWords, mostSetBytes}
 use Rattle.network.specs.State.{arityOf, faninsOf}
 use Rattle.network.specs.Load.{setBytes}
-use Rattle.network.specs.Write.{wordBytes, allZero, headerBytes, excludedBytes, gateBytes, gatesBytes, outputBytes, outputsBytes, bytesOf}
+use Rattle.network.specs.Write.{wordBytes, allZero, headerBytes, excludedBytes, formFor, gateBytes, gatesBytes, outputBytes, outputsBytes, bytesOf}
 use Rattle.network.proofs.Bytes.{length-words}
 
 -- ## Words
@@ -65,11 +65,14 @@ excluded-laid s z e q m w = rw (excluded-some s e) (laid-append m (rw q at w))
 
 -- ## Gates and outputs
 
-pub length-gate : (s : Session) (g : ℕ) → length (gateBytes s g) ≡ arityOf s g + 5
+pub length-gate : (s : Session) (g : ℕ) → length (gateBytes s g) ≡ 3 + arityOf s g + formFor (arityOf s g) .bytes
 unfolding gateBytes
 length-gate s g =
-    let n = length-places (arityOf s g) (λ r. getD (s .fanins) (gatePlaces * g + r) 0) in
-    let q = length-append (faninsOf s g) (bytesIn 2 (getD (s .current) g 0)) in
+    let k = arityOf s g in
+    let t = getD (s .current) g 0 in
+    let n = length-places k (λ r. getD (s .fanins) (gatePlaces * g + r) 0) in
+    let q = length-append (faninsOf s g) (bytesIn (formFor k .bytes) t) in
+    let b = length-bytes (formFor k .bytes) t in
     omega arith
 
 -- the slice of a gate's fan-ins
@@ -82,13 +85,14 @@ pub length-fanins : (s : Session) (g : ℕ) → gatePlaces * g + arityOf s g ≤
 length-fanins s g h = ap length (fanins-part s g h) ∙ length-places (arityOf s g) (λ r. getD (s .fanins) (gatePlaces * g + r) 0)
 
 -- the opening, the fan-ins, the table
-pub gate-laid : {b b₁ b₂ b₃ : List ℕ} {at r₁ r₂ r₃ : ℕ} (s : Session) (g : ℕ) → gatePlaces * g + arityOf s g ≤ length (s .fanins)
-    → Laid b at (0x4E ∷ 0x47 ∷ arityOf s g ∷ []) b₁ r₁
+pub gate-laid : {b b₁ b₂ b₃ : List ℕ} {at r₁ r₂ r₃ : ℕ} (s : Session) (g second bytes : ℕ) → gatePlaces * g + arityOf s g ≤ length (s .fanins)
+    → second ≡ formFor (arityOf s g) .opening % 256 → bytes ≡ formFor (arityOf s g) .bytes
+    → Laid b at (0x4E ∷ second ∷ arityOf s g ∷ []) b₁ r₁
     → Laid b₁ r₁ (take (gatePlaces * g + arityOf s g - gatePlaces * g) (drop (gatePlaces * g) (s .fanins))) b₂ r₂
-    → Laid b₂ r₂ (bytesIn 2 (getD (s .current) g 0)) b₃ r₃
+    → Laid b₂ r₂ (bytesIn bytes (getD (s .current) g 0)) b₃ r₃
     → Laid b at (gateBytes s g) b₃ r₃
 unfolding gateBytes
-gate-laid s g h o f t = laid-append (laid-append o (rw (fanins-part s g h) at f)) t
+gate-laid s g second bytes h p q o f t = laid-append (laid-append (rw p at o) (rw (fanins-part s g h) at f)) (rw q at t)
 
 pub gates-next : (s : Session) (m g : ℕ) → g < m → gatesBytes s (m - g) g ≡ gateBytes s g ++ gatesBytes s (m - (g + 1)) (g + 1)
 gates-next s m g l = let q : m - g ≡ suc (m - (g + 1)) = omega arith in rw q

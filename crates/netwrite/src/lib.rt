@@ -1,6 +1,6 @@
 // The file: from a network to bytes, record after record in a lent buffer.
 ghost use mathlib.Core.Path.{_≡_};
-ghost use Prim.Native.Nat.{_+_, _*_, _<_, _≤_};
+ghost use Prim.Native.Nat.{_+_, _*_, _%_, _<_, _≤_};
 ghost use lib.ListN.{length, take};
 ghost use Rattle.bits.specs.Bounds.{mostInputs};
 ghost use Rattle.bits.specs.Lists.{overwritten};
@@ -8,10 +8,19 @@ ghost use Rattle.buffer.specs.Laid.{Room, Laid};
 ghost use Rattle.network.specs.declared.Answer.the-variants.{Done};
 ghost use Rattle.network.specs.Bounds.{mostGates, mostOutputs, mostFanins, mostSetBytes, mostGateBytes, mostFileBytes};
 ghost use Rattle.network.specs.State.{arityOf, stateFault};
-ghost use Rattle.network.specs.Write.{wordBytes, allZero, excludedBytes, gateBytes, gatesBytes, outputsBytes, bytesOf};
+ghost use Rattle.network.specs.Write.{wordBytes, allZero, excludedBytes, formFor, gateBytes, gatesBytes, outputsBytes, bytesOf};
 use bits::GATE_PLACES;
 use network::EXCLUDED_WORDS;
+use network::NARROW_BYTES;
+use network::NARROW_MOST;
 use network::Session;
+use network::WIDE_BYTES;
+
+// A gate's record: the second byte of its mark, and how many bytes the table has.
+pub struct Form {
+    pub opening: u8,
+    pub bytes: usize,
+}
 
 // Each function that puts bytes does so from place at on and returns the place behind them.
 
@@ -61,6 +70,22 @@ fn put_excluded(buf: &mut [u8], at: usize, s: Session) -> usize
     put_words(buf, a, words, network::set_bytes(s.n))
 }
 
+// The record for k fan-ins.
+fn form_for(k: u8) -> Form
+    ensures { λ r. ⌜ (r .opening ≡ formFor k .opening % 256) × (r .bytes ≡ formFor k .bytes) × (r .bytes ≤ 8) ⌝ }
+{
+    if (k as usize) <= NARROW_MOST {
+        return Form {
+            opening: 0x47,
+            bytes: NARROW_BYTES,
+        };
+    }
+    Form {
+        opening: 0x48,
+        bytes: WIDE_BYTES,
+    }
+}
+
 fn put_gate(buf: &mut [u8], at: usize, s: Session, g: usize) -> usize
     requires { ⌜ (g < mostGates) × (arityOf s g ≤ mostFanins) × Room (now buf) at (gateBytes s g) ⌝ }
     ensures { λ r. ⌜ Laid (now (buf .entry)) at (gateBytes s g) (now (buf .exit)) r ⌝ }
@@ -70,10 +95,11 @@ fn put_gate(buf: &mut [u8], at: usize, s: Session, g: usize) -> usize
     let fanins = s.fanins;
     let b = GATE_PLACES * g;
     let e = b + (k as usize);
-    let opening = [0x4E, 0x47, k];
+    let form = form_for(k);
+    let opening = [0x4E, form.opening, k];
     let a = buffer::copy(buf, at, &opening);
     let d = buffer::copy(buf, a, &fanins[b..e]);
-    buffer::put_bytes(buf, d, table, 2)
+    buffer::put_bytes(buf, d, table, form.bytes)
 }
 
 fn put_gates(buf: &mut [u8], at: usize, s: Session) -> usize
@@ -128,7 +154,8 @@ fn gates_size(s: Session) -> usize
     let mut g: usize = 0;
     while g < m {
         let k = s.arity[g];
-        size += (k as usize) + 5;
+        let form = form_for(k);
+        size += 3 + (k as usize) + form.bytes;
         g += 1;
     }
     size

@@ -11,17 +11,19 @@ use borrow.Author.Tests.{leb-false}
 use Rattle.bits.specs.Bounds.{mostInputs, gatePlaces}
 use Rattle.bits.specs.Lists.{bytesIn}
 use Rattle.bits.proofs.Ranges.{by-cases, length-places}
+use Rattle.bits.proofs.Bytes.{length-bytes}
 use Rattle.network.specs.declared.Session.{Session}
 use Rattle.network.specs.declared.Refusal.the-variants.{TrailingBytes}
 use Rattle.network.specs.Bounds.{mostGates, mostOutputs, mostFanins, mostSetBytes, mostGateBytes, mostFileBytes}
 use Rattle.network.specs.Tests.{refuseIf}
 use Rattle.network.specs.State.{arityOf, faninsOf}
-use Rattle.network.specs.Load.{started, loadDone, withOutput, outputTests, outputRecord, readOutputs, faninsIn, afterFanins, tableIn, withGate, gateTests, gateRecord, readGates, setBytes, excludedIn, withExcluded, isExcluded, excludedRecord, readBody, headerTests, headerRecord, readOf}
-use Rattle.network.specs.Write.{wordBytes, allZero, headerBytes, excludedBytes, gateBytes, gatesBytes, outputBytes, outputsBytes, bytesOf}
+use Rattle.network.specs.Load.{started, loadDone, withOutput, outputTests, outputRecord, readOutputs, faninsIn, afterFanins, formOf, tableIn, withGate, gateTests, gateRecord, readGates, setBytes, excludedIn, withExcluded, isExcluded, excludedRecord, readBody, headerTests, headerRecord, readOf}
+use Rattle.network.specs.Write.{wordBytes, allZero, headerBytes, excludedBytes, formFor, gateBytes, gatesBytes, outputBytes, outputsBytes, bytesOf}
 use Rattle.network.proofs.TestLaws.{clear-e, short-e, count-e, passed, went}
 use Rattle.network.proofs.Valid.{valid-e}
 use Rattle.network.proofs.Reached.{load-read}
 use Rattle.roundtrip.specs.RoundTrip.{WrittenLength, LoadedLength}
+use Rattle.roundtrip.proofs.Forms.{bytes-most, gate-most}
 use Rattle.roundtrip.proofs.WordsRead.{set-bytes-most}
 
 -- ## Written
@@ -30,8 +32,12 @@ module _ (s : Session) where
   gate-length : (g : ℕ) → arityOf s g ≤ mostFanins → length (gateBytes s g) ≤ mostGateBytes
   unfolding gateBytes
   gate-length g h =
-      let n = length-append (faninsOf s g) (bytesIn 2 (getD (s .current) g 0)) in
-      let k = length-places (arityOf s g) (λ r. getD (s .fanins) (gatePlaces * g + r) 0) in
+      let k = arityOf s g in
+      let z = formFor k .bytes in
+      let most = bytes-most k in
+      let n = length-append (faninsOf s g) (bytesIn z (getD (s .current) g 0)) in
+      let f = length-places k (λ r. getD (s .fanins) (gatePlaces * g + r) 0) in
+      let b = length-bytes z (getD (s .current) g 0) in
       omega arith
 
   gates-length : (c g : ℕ) → ((j : ℕ) → j < g + c → arityOf s j ≤ mostFanins) → length (gatesBytes s c g) ≤ mostGateBytes * c
@@ -93,11 +99,12 @@ module _ (u : Session) where
   gates-end zero g t rest h = let e = outputs-end (t .p) 0 t rest h in omega arith
   gates-end (suc c) g t rest h =
       let k = getD rest 2 0 in
+      let z = formOf rest .bytes in
       let t' = withGate t g k (faninsIn rest) (tableIn rest) in
-      let w = went (gateRecord (t .n + g) rest) (readGates c (g + 1) t' (drop 2 (afterFanins rest))) u h in
-      let b = count-e mostFanins k (clear-e (gateTests (t .n + g) rest) (w .0) .1 .1 .0) in
-      let r = gates-end c (g + 1) t' (drop 2 (afterFanins rest)) (w .1) in
-      let d = length-drop 2 (afterFanins rest) in
+      let w = went (gateRecord (t .n + g) rest) (readGates c (g + 1) t' (drop z (afterFanins rest))) u h in
+      let b = gate-most rest k (clear-e (gateTests (formOf rest) (t .n + g) rest) (w .0) .1 .1 .0) in
+      let r = gates-end c (g + 1) t' (drop z (afterFanins rest)) (w .1) in
+      let d = length-drop z (afterFanins rest) in
       let e = length-drop k (drop 3 rest) in
       let f = length-drop 3 rest in
       omega arith

@@ -1,5 +1,6 @@
 pub mod WordsRead
 pub mod Rebuilt
+pub mod Forms
 pub mod GatesRead
 pub mod OutputsRead
 pub mod RoundTrip
@@ -7,3 +8,4 @@ pub mod Prefix
 pub mod Lengths
 pub mod Truncation
 pub mod WrittenBytes
+pub mod Kept

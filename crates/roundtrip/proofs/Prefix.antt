@@ -12,11 +12,12 @@ use Rattle.bits.specs.Bounds.{mostInputs}
 use Rattle.network.specs.declared.Session.{Session}
 use Rattle.network.specs.declared.Answer.{Answer}
 use Rattle.network.specs.declared.Answer.the-variants.{Done, Refused}
-use Rattle.network.specs.Bounds.{mostGates, mostOutputs, mostFanins, mostGateBytes, mostFileBytes}
-use Rattle.network.specs.Tests.{orElse, lengthTest, markTest, countTest}
-use Rattle.network.specs.Load.{started, withOutput, outputRecord, readOutputs, faninsIn, afterFanins, tableIn, withGate, gateTests, gateRecord, readGates, setBytes, excludedIn, withExcluded, isExcluded, excludedRecord, readBody, headerTests, headerRecord, readOf, loadOf}
+use Rattle.network.specs.Bounds.{mostGates, mostOutputs, mostSetBytes, mostGateBytes, mostFileBytes}
+use Rattle.network.specs.Tests.{orElse, first, lengthTest, markTest, rangeTest}
+use Rattle.network.specs.Load.{started, withOutput, outputRecord, readOutputs, faninsIn, afterFanins, GateForm, formOf, tableIn, withGate, gateTests, gateRecord, readGates, setBytes, excludedIn, withExcluded, isExcluded, excludedRecord, readBody, headerTests, headerRecord, readOf, loadOf}
 use Rattle.network.proofs.TestLaws.{clear-e, count-e, onward-ext}
 use Rattle.roundtrip.specs.RoundTrip.{Prefix}
+use Rattle.roundtrip.proofs.Forms.{gate-most}
 use Rattle.roundtrip.proofs.WordsRead.{set-bytes-most}
 
 -- ## The front of a list
@@ -55,6 +56,9 @@ module _ (N : ℕ) (l : List ℕ) where
   pub excluded-cut : 2 ≤ N → isExcluded (take N l) ≡ isExcluded l
   excluded-cut h = rw (leb-cut 2 h, getD-take N l 0 0 (omega arith), getD-take N l 1 0 (omega arith))
 
+  pub form-cut : 2 ≤ N → formOf (take N l) ≡ formOf l
+  form-cut h = rw (leb-cut 2 h, getD-take N l 0 0 (omega arith), getD-take N l 1 0 (omega arith))
+
   pub header-cut : 5 ≤ N → headerRecord (take N l) ≡ headerRecord l
   unfolding headerRecord
   header-cut h =
@@ -80,26 +84,30 @@ or-ext : (a b b' : Answer) → (a ≡ Done → b ≡ b') → orElse a b ≡ orEl
 or-ext Done b b' f = f refl
 or-ext (Refused r) b b' f = refl
 
--- N takes in the whole record, which is up to 9 bytes long
-module _ (N : ℕ) (l : List ℕ) (three : 3 ≤ N) (long : getD l 2 0 ≤ mostFanins → getD l 2 0 + 5 ≤ N) where
-  pub gate-cut : (limit : ℕ) → gateRecord limit (take N l) ≡ gateRecord limit l
+-- N takes in the whole record where k is within its bounds
+gate-tests-cut : (N : ℕ) (l : List ℕ) (f : GateForm) (limit : ℕ) → 3 ≤ N → (rangeTest (f .least) (f .most) (getD l 2 0) ≡ Done → 3 + getD l 2 0 + f .bytes ≤ N)
+    → first (gateTests f limit (take N l)) ≡ first (gateTests f limit l)
+gate-tests-cut N l f limit three long =
+    let k = getD l 2 0 in
+    rw (mark-cut N l (f .opening) (omega arith), ltb-cut N l 3 (omega arith), getD-take N l 2 0 (omega arith))
+    (ap (λ (x : Answer). orElse (markTest (f .opening) l) (orElse (lengthTest 3 l) x)) (or-ext (rangeTest (f .least) (f .most) k) _ _ (λ e.
+    let b = long e in
+    rw (drop-take 3 N l, ltb-cut (N - 3) (drop 3 l) (k + f .bytes) (omega arith), take-take k (N - 3) (drop 3 l) (omega arith), inner-cut (N - 3) k (f .bytes) (drop 3 l) (omega arith)))))
+
+module _ (N : ℕ) (l : List ℕ) (three : 3 ≤ N) where
+  pub gate-cut : (limit : ℕ) → (rangeTest (formOf l .least) (formOf l .most) (getD l 2 0) ≡ Done → 3 + getD l 2 0 + formOf l .bytes ≤ N) → gateRecord limit (take N l) ≡ gateRecord limit l
   unfolding gateRecord
-  gate-cut limit =
-      let k = getD l 2 0 in
-      rw (mark-cut N l 0x4E47 (omega arith), ltb-cut N l 3 (omega arith), getD-take N l 2 0 (omega arith))
-      (ap (λ (x : Answer). orElse (markTest 0x4E47 l) (orElse (lengthTest 3 l) x)) (or-ext (countTest mostFanins k) _ _ (λ e.
-      let b = long (count-e mostFanins k e .1) in
-      rw (drop-take 3 N l, ltb-cut (N - 3) (drop 3 l) (k + 2) (omega arith), take-take k (N - 3) (drop 3 l) (omega arith), inner-cut (N - 3) k 2 (drop 3 l) (omega arith)))))
+  gate-cut limit long = rw (form-cut N l (omega arith)) (gate-tests-cut N l (formOf l) limit three long)
 
   -- the gate's stores, and what is left behind it
-  pub gate-next : (t : Session) (g c : ℕ) → getD l 2 0 ≤ mostFanins
-      → readGates c (g + 1) (withGate t g (getD (take N l) 2 0) (faninsIn (take N l)) (tableIn (take N l))) (drop 2 (afterFanins (take N l)))
-      ≡ readGates c (g + 1) (withGate t g (getD l 2 0) (faninsIn l) (tableIn l)) (take (N - 3 - getD l 2 0 - 2) (drop 2 (afterFanins l)))
-  gate-next t g c h =
+  pub gate-next : (t : Session) (g c : ℕ) → 3 + getD l 2 0 + formOf l .bytes ≤ N
+      → readGates c (g + 1) (withGate t g (getD (take N l) 2 0) (faninsIn (take N l)) (tableIn (take N l))) (drop (formOf (take N l) .bytes) (afterFanins (take N l)))
+      ≡ readGates c (g + 1) (withGate t g (getD l 2 0) (faninsIn l) (tableIn l)) (take (N - 3 - getD l 2 0 - formOf l .bytes) (drop (formOf l .bytes) (afterFanins l)))
+  gate-next t g c b =
       let k = getD l 2 0 in
-      let b = long h in
-      rw (getD-take N l 2 0 (omega arith), drop-take 3 N l, take-take k (N - 3) (drop 3 l) (omega arith), inner-cut (N - 3) k 2 (drop 3 l) (omega arith))
-      (rw (drop-take k (N - 3) (drop 3 l), drop-take 2 (N - 3 - k) (drop k (drop 3 l))))
+      let z = formOf l .bytes in
+      rw (form-cut N l (omega arith), getD-take N l 2 0 (omega arith), drop-take 3 N l, take-take k (N - 3) (drop 3 l) (omega arith), inner-cut (N - 3) k z (drop 3 l) (omega arith))
+      (rw (drop-take k (N - 3) (drop 3 l), drop-take z (N - 3 - k) (drop k (drop 3 l))))
 
 -- ## Record after record
 
@@ -119,15 +127,15 @@ gates-cut : (c N g : ℕ) (t : Session) (l : List ℕ) → mostGateBytes * c + 3
 unfolding readGates gateRecord
 gates-cut zero N g t l h = outputs-cut (t .p) N 0 t l (omega arith)
 gates-cut (suc c) N g t l h =
-    let long : getD l 2 0 ≤ mostFanins → getD l 2 0 + 5 ≤ N = λ b. omega arith in
-    rw (gate-cut N l (omega arith) long (t .n + g))
-    (onward-ext (gateRecord (t .n + g) l) _ _ (λ e.
     let k = getD l 2 0 in
-    let b = count-e mostFanins k (clear-e (gateTests (t .n + g) l) e .1 .1 .0) in
-    gate-next N l (omega arith) long t g c (b .1)
-    ∙ gates-cut c (N - 3 - k - 2) (g + 1) (withGate t g k (faninsIn l) (tableIn l)) (drop 2 (afterFanins l)) (omega arith)))
+    let z = formOf l .bytes in
+    rw (gate-cut N l (omega arith) (t .n + g) (λ e. let b = gate-most l k e in omega arith))
+    (onward-ext (gateRecord (t .n + g) l) _ _ (λ e.
+    let b = gate-most l k (clear-e (gateTests (formOf l) (t .n + g) l) e .1 .1 .0) in
+    gate-next N l (omega arith) t g c (omega arith)
+    ∙ gates-cut c (N - 3 - k - z) (g + 1) (withGate t g k (faninsIn l) (tableIn l)) (drop z (afterFanins l)) (omega arith)))
 
-body-cut : (N : ℕ) (t : Session) (l : List ℕ) → t .n ≤ mostInputs → mostGateBytes * t .m + 3 * t .p + 131 ≤ N → readBody t (take N l) ≡ readBody t l
+body-cut : (N : ℕ) (t : Session) (l : List ℕ) → t .n ≤ mostInputs → 2 + mostSetBytes + mostGateBytes * t .m + 3 * t .p + 1 ≤ N → readBody t (take N l) ≡ readBody t l
 unfolding readBody
 body-cut N t l few h =
     let z = setBytes (t .n) in

@@ -2,8 +2,9 @@
 use mathlib.Core.Path.{_≡_, refl, ap, _∙_}
 use mathlib.Core.Bool.{Bool, true, false}
 use mathlib.Core.List.{List, _∷_, _++_, append-assoc}
-use Prim.Native.Nat.{ℕ, zero, suc, _+_, _^_, _≤_, _<_}
+use Prim.Native.Nat.{ℕ, zero, suc, _+_, _*_, _%_, _^_, _≤_, _<_}
 use native.Mathlib.Omega.{arith}
+use lib.Dec.{eqb}
 use lib.ListN.{length, take, length-append}
 use lib.Seq.{take-at, drop-at, length-take-le}
 use borrow.Author.Tests.{le-leb}
@@ -26,6 +27,7 @@ use Rattle.network.proofs.Reached.{load-back, opened-loaded, opened-current}
 use Rattle.roundtrip.specs.RoundTrip.{Returns, RoundTrip}
 use Rattle.roundtrip.proofs.Rebuilt.{Rebuilt, rebuildGate, rebuildOutput, rebuild-gate, rebuild-output, same-net}
 use Rattle.roundtrip.proofs.WordsRead.{within, holds, words-back, zeros, set-bytes-most}
+use Rattle.roundtrip.proofs.Forms.{form-cases}
 use Rattle.roundtrip.proofs.GatesRead.{gate-back}
 use Rattle.roundtrip.proofs.OutputsRead.{output-back}
 
@@ -33,7 +35,9 @@ use Rattle.roundtrip.proofs.OutputsRead.{output-back}
 no-set : (s : Session) (c : ℕ) (tail : List ℕ) → 1 ≤ c → isExcluded (gatesBytes s c 0 ++ tail) ≡ false
 unfolding gateBytes
 no-set s zero tail h = let z : ⊥ = omega arith in absurd z
-no-set s (suc c) tail h = rw (le-leb 2 (length (gateBytes s 0 ++ gatesBytes s c 1 ++ tail)) (omega arith))
+no-set s (suc c) tail h =
+    rw (le-leb 2 (length (gateBytes s 0 ++ gatesBytes s c 1 ++ tail)) (omega arith))
+    (form-cases (λ f. eqb (0x4E * 256 + f .opening % 256) 0x4E58 ≡ false) (arityOf s 0) (λ l. refl) (λ l. refl))
 
 set-record : (n : ℕ) (xs ws : List ℕ) → setBytes n ≤ length xs → wordsFrom excludedWords (take (setBytes n) xs) ≡ ws → excludedTest n ws ≡ Done
     → excludedRecord n (0x4E ∷ 0x58 ∷ xs) ≡ Done

@@ -16,13 +16,12 @@ use Rattle.network.specs.declared.Answer.{Answer}
 use Rattle.network.specs.declared.Answer.the-variants.{Done, Refused}
 use Rattle.network.specs.Bounds.{mostGates}
 use Rattle.network.specs.Tests.{first, lengthTest, markTest}
-use Rattle.network.specs.Load.{started, loadDone, loadRefused, withOutput, outputTests, outputRecord, readOutputs, faninsIn, afterFanins, tableIn, withGate, gateTests, gateRecord, readGates, setBytes, excludedIn, withExcluded, isExcluded, excludedRecord, readBody, headerTests, headerRecord, readOf, loadOf}
+use Rattle.network.specs.Load.{started, loadDone, loadRefused, withOutput, outputTests, outputRecord, readOutputs, faninsIn, afterFanins, formOf, tableIn, withGate, gateTests, gateRecord, readGates, setBytes, excludedIn, withExcluded, isExcluded, excludedRecord, readBody, headerTests, headerRecord, readOf, loadOf}
 use Rattle.network.proofs.TestLaws.{clear-e, count-e, went}
 use Rattle.network.proofs.Reached.{load-read}
 use Rattle.roundtrip.specs.RoundTrip.{Truncation}
-use Rattle.netread.proofs.Records.{whole-gate}
 use Rattle.roundtrip.proofs.Lengths.{outputs-end}
-use Rattle.roundtrip.proofs.Prefix.{drop-take, ltb-cut, mark-cut, output-cut, excluded-cut, header-cut, set-cut, set-next, gate-cut, gate-next, output-next}
+use Rattle.roundtrip.proofs.Prefix.{drop-take, ltb-cut, mark-cut, output-cut, excluded-cut, form-cut, header-cut, set-cut, set-next, gate-cut, gate-next, output-next}
 
 -- a cut before place k, or not
 before : {P : Type 0} (N k : ℕ) → (N < k → P) → (k ≤ N → P) → P
@@ -61,7 +60,7 @@ module _ (N : ℕ) (l : List ℕ) (h : N < length l) where
   cut-gates : (c g : ℕ) (t : Session) → 1 ≤ c → N < 2 → readGates c g t (take N l) ≡ loadRefused Truncated
   unfolding readGates gateRecord
   cut-gates zero g t a b = let z : ⊥ = omega arith in absurd z
-  cut-gates (suc c) g t a b = rw (cut-mark 0x4E47 b)
+  cut-gates (suc c) g t a b = rw (cut-mark (formOf (take N l) .opening) b)
 
 module _ (N : ℕ) (l : List ℕ) (h : N < length l) where
   left-over : (k : ℕ) → k ≤ N → N - k < length (drop k l)
@@ -71,15 +70,17 @@ module _ (N : ℕ) (l : List ℕ) (h : N < length l) where
   unfolding excludedRecord
   cut-set n a b = rw (drop-take 2 N l, cut-short (N - 2) (drop 2 l) (left-over 2 a) (setBytes n) (omega arith))
 
-  cut-gate : (limit : ℕ) → gateRecord limit l ≡ Done → N < getD l 2 0 + 5 → gateRecord limit (take N l) ≡ Refused Truncated
+  cut-gate : (limit : ℕ) → gateRecord limit l ≡ Done → N < 3 + getD l 2 0 + formOf l .bytes → gateRecord limit (take N l) ≡ Refused Truncated
   unfolding gateRecord
   cut-gate limit e b =
+      let f = formOf l in
       let k = getD l 2 0 in
-      let q = clear-e (gateTests limit l) e in
-      before N 3 (λ a. cut-front N l h 0x4E47 3 (drop 2 (gateTests limit (take N l))) (q .0) a)
+      let q = clear-e (gateTests f limit l) e in
+      before N 2 (λ a. rw (cut-mark N l h (formOf (take N l) .opening) a))
+      (λ two. rw (form-cut N l two) (before N 3 (λ a. cut-front N l h (f .opening) 3 (drop 2 (gateTests f limit (take N l))) (q .0) a)
       (λ a.
-      rw (mark-cut N l 0x4E47 (omega arith), q .0, ltb-cut N l 3 a, q .1 .0, getD-take N l 2 0 (omega arith), q .1 .1 .0)
-      (rw (drop-take 3 N l, cut-short (N - 3) (drop 3 l) (left-over 3 a) (k + 2) (omega arith))))
+      rw (mark-cut N l (f .opening) two, q .0, ltb-cut N l 3 a, q .1 .0, getD-take N l 2 0 (omega arith), q .1 .1 .0)
+      (rw (drop-take 3 N l, cut-short (N - 3) (drop 3 l) (left-over 3 a) (k + f .bytes) (omega arith))))))
 
 -- ## Record after record
 
@@ -104,15 +105,15 @@ module _ (u : Session) where
   gates-truncated (suc c) N g t l h b =
       let k = getD l 2 0 in
       let limit = t .n + g in
-      let rest = drop 2 (afterFanins l) in
+      let z = formOf l .bytes in
+      let rest = drop z (afterFanins l) in
       let t' = withGate t g k (faninsIn l) (tableIn l) in
       let w = went (gateRecord limit l) (readGates c (g + 1) t' rest) u h in
-      let v = whole-gate limit l (w .0) in
-      before N (k + 5) (λ a. rw (cut-gate N l b limit (w .0) a))
+      before N (3 + k + z) (λ a. rw (cut-gate N l b limit (w .0) a))
       (λ a.
-      let left : N - 3 - k - 2 < length rest = simp length-drop (omega arith) in
-      rw (gate-cut N l (omega arith) (λ _. a) limit, w .0)
-      (gate-next N l (omega arith) (λ _. a) t g c (v .few) ∙ gates-truncated c (N - 3 - k - 2) (g + 1) t' rest (w .1) left))
+      let left : N - 3 - k - z < length rest = simp length-drop (omega arith) in
+      rw (gate-cut N l (omega arith) limit (λ _. a), w .0)
+      (gate-next N l (omega arith) t g c a ∙ gates-truncated c (N - 3 - k - z) (g + 1) t' rest (w .1) left))
 
   body-truncated : (N : ℕ) (t : Session) (l : List ℕ) → 1 ≤ t .m → readBody t l ≡ loadDone u → N < length l
       → readBody t (take N l) ≡ loadRefused Truncated

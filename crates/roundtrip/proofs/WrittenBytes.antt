@@ -14,7 +14,7 @@ use Rattle.network.specs.declared.Answer.the-variants.{Done}
 use Rattle.network.specs.Bounds.{mostGates, mostOutputs}
 use Rattle.network.specs.State.{arityOf, faninsOf, stateFault}
 use Rattle.network.specs.Load.{setBytes}
-use Rattle.network.specs.Write.{wordBytes, allZero, headerBytes, excludedBytes, gateBytes, gatesBytes, outputBytes, outputsBytes, bytesOf}
+use Rattle.network.specs.Write.{wordBytes, allZero, headerBytes, excludedBytes, formFor, gateBytes, gatesBytes, outputBytes, outputsBytes, bytesOf}
 use Rattle.network.proofs.TestLaws.{count-e}
 use Rattle.network.proofs.Valid.{valid-e, net-ok, outputs-ok}
 use Rattle.roundtrip.specs.RoundTrip.{WrittenBytes}
@@ -66,13 +66,14 @@ module _ (s : Session) (valid : stateFault s ≡ Done) where
       let n = net-ok s valid in
       let k = n .gate g h in
       let a = n .ins in
-      let b = n .most in (
+      let b = n .most in
+      let f = formFor (arityOf s g) in (
         omega arith,
         (
-          omega arith,
+          mod-lt (f .opening) (omega arith),
           (
             omega (arith, k .few),
-            small-append (faninsOf s g) (bytesIn 2 (getD (s .current) g 0)) (small-places (arityOf s g) (λ r. getD (s .fanins) (gatePlaces * g + r) 0) (λ r l. omega (arith, k .early r l))) (small-number 2 (getD (s .current) g 0)),
+            small-append (faninsOf s g) (bytesIn (f .bytes) (getD (s .current) g 0)) (small-places (arityOf s g) (λ r. getD (s .fanins) (gatePlaces * g + r) 0) (λ r l. omega (arith, k .early r l))) (small-number (f .bytes) (getD (s .current) g 0)),
           ),
         ),
       )

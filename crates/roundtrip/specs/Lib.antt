@@ -1,1 +1,3 @@
 pub mod RoundTrip
+pub mod OldFile
+pub mod Kept

@@ -1,6 +1,8 @@
-use mathlib.Core.Path.{sym, _∙_}
+use mathlib.Core.Path.{_∙_}
 use mathlib.Core.List.{[], _∷_}
-use Rattle.netread.proofs.Marks.{apart, is-excluded, not-excluded}
+use native.Mathlib.Omega.{arith}
+use Rattle.netread.specs.declared.Kind.the-variants.{Excluded}
+use Rattle.netread.proofs.Marks.{tag, apart, is-marked, not-marked}
 use Rattle.netread.proofs.File.{no-set}
 use borrow.Author.Needs.{needs}
 use Rattle.netread.proofs.body.Statement.{statement}
@@ -16,7 +18,7 @@ excluded-requires : tie.Need-excluded-requires
 excluded-requires c κs =
     let k = c .before .before .kind-at in
     let p = c .before .before .before .before .pre in
-    (p .0, p .1, p .2, is-excluded _ (sym (c .enum-told .given .1) ∙ k .ensures))
+    (p .0, p .1, p .2, is-marked _ (k .result) Excluded (k .ensures) (c .enum-told .given .1) (omega arith))
 
 gates-requires : tie.Need-gates-requires
 gates-requires c κs = search needs
@@ -27,7 +29,7 @@ returns c = c .excluded .ensures
 returns-2 : tie.Need-returns-2
 returns-2 c =
     let k = c .before .before .kind-at in
-    c .gates .ensures ∙ no-set _ _ (not-excluded _ (k .result) (k .ensures) (apart (0 ∷ 2 ∷ 3 ∷ 4 ∷ []) _ 1 tt (c .before .match .keys2)))
+    c .gates .ensures ∙ no-set _ _ (not-marked _ (k .result) Excluded (k .ensures) (omega arith) (apart (Excluded ∷ []) _ (tag Excluded) tt (c .before .match .keys2)))
 
 pub body-spec : {M : Type 1} → statement M
 body-spec =

@@ -1,15 +1,14 @@
 -- `netread::gates` meets its contract. Assumes nothing.
 use mathlib.Core.Path.{_≡_, refl, _∙_}
-use Prim.Native.Nat.{_-_, _≤_}
+use Prim.Native.Nat.{_+_, _-_, _≤_}
 use native.Mathlib.Nat.{sub-zero}
 use native.Mathlib.Omega.{arith}
 use lib.ListN.{length, getD, take, drop}
-use lib.Seq.{drop-drop}
 use borrow.Author.Needs.{needs}
 use Rattle.network.specs.Load.{readGates}
 use Rattle.netread.proofs.Steps.{tail-part}
 use Rattle.netread.proofs.Records.{WholeGate, fanins-part}
-use Rattle.netread.proofs.Loops.{gate-room, gate-whole, gate-next, gate-refused, gates-last}
+use Rattle.netread.proofs.Loops.{gate-whole, gate-next, gate-refused, gates-last}
 use Rattle.netread.proofs.gates.Statement.{statement}
 use Rattle.netread.proofs.gates.Tie as tie
 
@@ -22,15 +21,15 @@ abbrev μ-loop : tie.MeasureT-loop
 
 -- the record that is read is whole
 whole : (c : tie.After-enum-told Inv-loop μ-loop) →
-    let o = c .before .before in
-    let h = o .before .before .before .loop in
-    let a = o .before .before .before .before .before .args in
-    WholeGate (take (length (a .rest .now) - h .at) (drop (h .at) (a .rest .now)))
+    let h = c .before .before .before .before .before .loop in
+    let rest = c .before .before .before .before .before .before .before .args .rest .now in
+    let part = take (length rest - h .at) (drop (h .at) rest) in
+    WholeGate part × (h .at + length part ≡ length rest)
 whole c =
     let o = c .before .before in
     let h = o .before .before .before .loop in
     let a = o .before .before .before .before .before .args in
-    gate-whole (a .rest .now) (a .t .m) (h .u) (h .at) (h .g) (a .t .n) (h .inv .2) (o .gate-record .result) (o .gate-record .ensures) (c .enum-told .given .1)
+    gate-whole (a .rest .now) (a .t .m) (h .u) (h .at) (h .g) (a .t .n) (h .inv .2) (o .gate-record .result) (o .gate-record .ensures) (h .inv .1) (c .enum-told .given .1)
 
 loop-holds : tie.Need-loop-holds Inv-loop μ-loop
 loop-holds c = (omega arith, omega arith, refl, refl, refl, rw sub-zero)
@@ -70,16 +69,19 @@ cast-i : tie.Need-cast-i Inv-loop μ-loop
 cast-i c = search needs
 
 shared-slice-read-k : tie.Need-shared-slice-read-k Inv-loop μ-loop
-shared-slice-read-k c = let w = whole (c .before) in omega (arith, w .few, w .long)
+shared-slice-read-k c = let w = whole (c .before) in omega (arith, w .0 .few, w .0 .long)
 
 cast-e : tie.Need-cast-e Inv-loop μ-loop
-cast-e c = let w = whole (c .before) in omega (arith, w .few, w .long)
+cast-e c = let w = whole (c .before) in omega (arith, w .0 .few, w .0 .long)
 
 add-e : tie.Need-add-e Inv-loop μ-loop
-add-e c = let w = whole (c .before) in omega (arith, w .few, w .long)
+add-e c = let w = whole (c .before) in omega (arith, w .0 .few, w .0 .long)
+
+table-bytes-requires : tie.Need-table-bytes-requires Inv-loop μ-loop
+table-bytes-requires c κs = search needs
 
 table-requires : tie.Need-table-requires Inv-loop μ-loop
-table-requires c κs = let w = whole (c .before) in omega (arith, w .few, w .long)
+table-requires c κs = let w = whole (c .before .before) in let z = c .table-bytes .ensures in omega (arith, w .0 .few, w .0 .long, z .0, z .1)
 
 mul-put-fanins : tie.Need-mul-put-fanins Inv-loop μ-loop
 mul-put-fanins c = search needs
@@ -88,13 +90,13 @@ sub-put-fanins : tie.Need-sub-put-fanins Inv-loop μ-loop
 sub-put-fanins c = search needs
 
 part-put-fanins-start : tie.Need-part-put-fanins-start Inv-loop μ-loop
-part-put-fanins-start c = let w = whole (c .before .before .before) in omega (arith, w .few, w .long)
+part-put-fanins-start c = let w = whole (c .before .before .before .before) in omega (arith, w .0 .few, w .0 .long)
 
 part-put-fanins-end : tie.Need-part-put-fanins-end Inv-loop μ-loop
-part-put-fanins-end c = let w = whole (c .before .before .before) in omega (arith, w .few, w .long)
+part-put-fanins-end c = let w = whole (c .before .before .before .before) in omega (arith, w .0 .few, w .0 .long)
 
 put-fanins-requires : tie.Need-put-fanins-requires Inv-loop μ-loop
-put-fanins-requires c κs = let w = whole (c .before .before .before .before) in omega (arith, w .few, w .long)
+put-fanins-requires c κs = let w = whole (c .before .before .before .before .before) in omega (arith, w .0 .few, w .0 .long)
 
 element-write-u : tie.Need-element-write-u Inv-loop μ-loop
 element-write-u c = search needs
@@ -111,12 +113,15 @@ mul-u-2 c = search needs
 element-write-u-3 : tie.Need-element-write-u-3 Inv-loop μ-loop
 element-write-u-3 c = search needs
 
-gate-end-requires : tie.Need-gate-end-requires Inv-loop μ-loop
-gate-end-requires c κs =
-    let o = c .before .before .before .before .before .before .before in
-    let h = o .before .before .before .loop in
-    let a = o .before .before .before .before .before .args in
-    gate-room (a .rest .now) (a .t .m) (h .u) (h .at) (h .g) (a .t .n) (h .inv .2) (o .gate-record .result) (o .gate-record .ensures) (h .inv .1) (c .before .before .before .before .before .enum-told .given .1)
+add-at : tie.Need-add-at Inv-loop μ-loop
+add-at c =
+    let w = whole (c .before .before .before .before .before .before) in
+    omega (arith, w .0 .few, c .before .before .before .before .table-bytes .ensures .1)
+
+add-at-2 : tie.Need-add-at-2 Inv-loop μ-loop
+add-at-2 c =
+    let w = whole (c .before .before .before .before .before .before) in
+    omega (arith, w .0 .long, w .1, c .before .before .before .before .table-bytes .ensures .0)
 
 add-g : tie.Need-add-g Inv-loop μ-loop
 add-g c = search needs
@@ -129,17 +134,15 @@ loop-again c =
     let o = c .before .before .before .before .before .before .before .before in
     let h = o .before .before .before .loop in
     let a = o .before .before .before .before .before .args in
-    let done = c .before .before .before .before .before .before .enum-told .given .1 in
-    let l = gate-room (a .rest .now) (a .t .m) (h .u) (h .at) (h .g) (a .t .n) (h .inv .2) (o .gate-record .result) (o .gate-record .ensures) (h .inv .1) done in
-    let q = c .gate-end .ensures in
-    let part = drop (h .at) (a .rest .now) in
-    let k = getD part 2 0 in (
+    let z = c .before .before .before .before .table-bytes .ensures in
+    let w = whole (c .before .before .before .before .before .before) in
+    let part = drop (h .at) (a .rest .now) in (
       omega arith,
-      omega arith,
+      omega (arith, w .0 .long, w .1, z .0),
       h .inv .2,
       h .inv .3,
       h .inv .4,
-      rw (c .before .put-fanins .ensures, c .before .before .before .before .table .ensures, tail-part (a .rest .now) (h .at), fanins-part part k, ← drop-drop k 3 part, q) (gate-next (a .rest .now) (a .t .m) (h .u) (h .at) (h .g) (a .t .n) (h .inv .2) (o .gate-record .result) (o .gate-record .ensures) (omega arith) done) ∙ h .inv .5,
+      rw (c .put-fanins .ensures, c .before .before .before .table .ensures, z .0, tail-part (a .rest .now) (h .at), fanins-part part (getD part 2 0)) (gate-next (a .rest .now) (a .t .m) (h .u) (h .at) (h .g) (a .t .n) (h .inv .2) (o .gate-record .result) (o .gate-record .ensures) (omega arith) (c .before .before .before .before .before .before .enum-told .given .1)) ∙ h .inv .5,
     )
 
 sub-outputs : tie.Need-sub-outputs Inv-loop μ-loop
@@ -185,6 +188,7 @@ gates-spec =
     shared-slice-read-k
     cast-e
     add-e
+    table-bytes-requires
     table-requires
     mul-put-fanins
     sub-put-fanins
@@ -196,7 +200,8 @@ gates-spec =
     element-write-u-2
     mul-u-2
     element-write-u-3
-    gate-end-requires
+    add-at
+    add-at-2
     add-g
     loop-less
     loop-again

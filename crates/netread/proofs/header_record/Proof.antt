@@ -3,7 +3,7 @@ use native.Mathlib.Omega.{arith}
 use Rattle.network.specs.Load.{headerRecord}
 use Rattle.network.proofs.TestLaws.{short-i}
 use Rattle.netread.specs.declared.Kind.the-variants.{Header}
-use Rattle.netread.proofs.Marks.{is-due, not-due, apart}
+use Rattle.netread.proofs.Marks.{tag, is-due, not-due, apart}
 use Rattle.netread.proofs.Records.{short}
 use borrow.Author.Needs.{needs}
 use Rattle.netread.proofs.header_record.Statement.{statement}
@@ -22,7 +22,7 @@ returns : tie.Need-returns
 unfolding headerRecord
 returns c =
     let k = c .before .before .kind-at in
-    rw (c .not-due .ensures, not-due _ (k .result) Header (k .ensures) (omega arith) (apart (1 ∷ 2 ∷ 3 ∷ 4 ∷ []) _ 0 tt (c .before .match .keys2)))
+    rw (c .not-due .ensures, not-due _ (k .result) Header (k .ensures) (omega arith) (apart (Header ∷ []) _ (tag Header) tt (c .before .match .keys2)))
 
 returns-2 : tie.Need-returns-2
 unfolding headerRecord

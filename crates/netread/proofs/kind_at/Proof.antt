@@ -25,13 +25,15 @@ returns-4 c = by-key _ 0x4E47 _ (c .match .keys3) (c .before .mark .ensures) (c 
 
 returns-5 : tie.Need-returns-5
 unfolding kindOf
-returns-5 c = by-key _ 0x4E4F _ (c .match .keys4) (c .before .mark .ensures) (c .before .before .if1 .left)
+returns-5 c = by-key _ 0x4E48 _ (c .match .keys4) (c .before .mark .ensures) (c .before .before .if1 .left)
 
 returns-6 : tie.Need-returns-6
-returns-6 c =
-    let r = c .match .rest in
-    none _ (r .0 .0 .0 .1) (r .0 .0 .1) (r .0 .1) (r .1) ∙ ap kindOf (c .before .mark .ensures) ∙ long _ (c .before .before .if1 .left)
+unfolding kindOf
+returns-6 c = by-key _ 0x4E4F _ (c .match .keys5) (c .before .mark .ensures) (c .before .before .if1 .left)
+
+returns-7 : tie.Need-returns-7
+returns-7 c = none _ _ (c .match .rest) ∙ ap kindOf (c .before .mark .ensures) ∙ long _ (c .before .before .if1 .left)
 
 pub kind-at-spec : {M : Type 1} → statement M
 kind-at-spec =
-    tie.close (tie.spec returns mark-requires returns-2 returns-3 returns-4 returns-5 returns-6)
+    tie.close (tie.spec returns mark-requires returns-2 returns-3 returns-4 returns-5 returns-6 returns-7)

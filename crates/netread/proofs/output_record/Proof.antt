@@ -4,7 +4,7 @@ use Rattle.network.specs.Load.{outputRecord}
 use Rattle.network.proofs.TestLaws.{short-i}
 use Rattle.state.proofs.TestSteps.{or-last}
 use Rattle.netread.specs.declared.Kind.the-variants.{Output}
-use Rattle.netread.proofs.Marks.{is-due, not-due, apart}
+use Rattle.netread.proofs.Marks.{tag, is-due, not-due, apart}
 use Rattle.netread.proofs.Records.{short}
 use borrow.Author.Needs.{needs}
 use Rattle.netread.proofs.output_record.Statement.{statement}
@@ -23,7 +23,7 @@ returns : tie.Need-returns
 unfolding outputRecord
 returns c =
     let k = c .before .before .kind-at in
-    rw (c .not-due .ensures, not-due _ (k .result) Output (k .ensures) (omega arith) (apart (0 ∷ 1 ∷ 2 ∷ 4 ∷ []) _ 3 tt (c .before .match .keys2)))
+    rw (c .not-due .ensures, not-due _ (k .result) Output (k .ensures) (omega arith) (apart (Output ∷ []) _ (tag Output) tt (c .before .match .keys2)))
 
 returns-2 : tie.Need-returns-2
 unfolding outputRecord

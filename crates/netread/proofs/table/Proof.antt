@@ -19,7 +19,7 @@ word-requires : tie.Need-word-requires
 word-requires c κs = search needs
 
 returns : tie.Need-returns
-returns c = rw (c .word .ensures, whole-part (c .before .before .before .args .rest .now) (c .before .before .before .args .e) 2)
+returns c = rw (c .word .ensures, whole-part (c .before .before .before .args .rest .now) (c .before .before .before .args .e) (c .before .before .before .args .bytes))
 
 pub table-spec : {M : Type 1} → statement M
 table-spec =

@@ -1,4 +1,4 @@
--- `bytes_needed`: the records' lengths, of which the largest sum is 5 + 130 + 360 + 24. Assumes nothing.
+-- `bytes_needed`: the records' lengths, of which the largest sum is 5 + 130 + 680 + 24. Assumes nothing.
 use native.Mathlib.Omega.{arith}
 use borrow.Author.Needs.{needs}
 use Rattle.network.proofs.Valid.{net-ok, outputs-ok}

@@ -27,12 +27,19 @@ cast-e c = search needs
 add-e : tie.Need-add-e
 add-e c = search needs
 
+form-for-requires : tie.Need-form-for-requires
+form-for-requires c κs = search needs
+
 slice-aggregate-copy : tie.Need-slice-aggregate-copy
 slice-aggregate-copy c = search needs
 
+-- the places of the fan-ins
+slots : (c : tie.After-fanins) → length (c .before .before .before .before .args .t3 .fanins) ≡ faninPlaces
+slots c = search needs
+
 copy-requires : tie.Need-copy-requires
 copy-requires c κs =
-    let x = c .before .before .before .before .before .before .args in
+    let x = c .before .before .before .before .before .before .before .args in
     let n = length-gate (x .t3) (x .g) in
     omega arith
 
@@ -44,14 +51,16 @@ part-copy-start c = search needs
 
 part-copy-end : tie.Need-part-copy-end
 part-copy-end c =
-    let x = c .before .before .before .before .before .before .before .before .before .before .before .args in
-    let h : length (x .t3 .fanins) ≡ faninPlaces = search needs in
+    let o = c .before .before .before .before .before .before .before .before in
+    let x = o .before .before .before .before .args in
+    let h = slots o in
     omega arith
 
 copy-requires-2 : tie.Need-copy-requires-2
 copy-requires-2 c κs =
-    let x = c .before .before .before .before .before .before .before .before .before .before .before .before .args in
-    let h : length (x .t3 .fanins) ≡ faninPlaces = search needs in
+    let o = c .before .before .before .before .before .before .before .before .before in
+    let x = o .before .before .before .before .args in
+    let h = slots o in
     let n = length-gate (x .t3) (x .g) in
     let f = length-fanins (x .t3) (x .g) (omega arith) in
     let opening = c .before .before .before .before .before .copy .ensures in
@@ -61,8 +70,9 @@ copy-requires-2 c κs =
 
 put-bytes-requires : tie.Need-put-bytes-requires
 put-bytes-requires c κs =
-    let x = c .before .before .before .before .before .before .before .before .before .before .before .before .before .before .before .before .args in
-    let h : length (x .t3 .fanins) ≡ faninPlaces = search needs in
+    let o = c .before .before .before .before .before .before .before .before .before .before .before .before .before in
+    let x = o .before .before .before .before .args in
+    let h = slots o in
     let n = length-gate (x .t3) (x .g) in
     let f = length-fanins (x .t3) (x .g) (omega arith) in
     let opening = c .before .before .before .before .before .before .before .before .before .copy .ensures in
@@ -70,6 +80,7 @@ put-bytes-requires c κs =
     let a = opening .behind in
     let d = fanins .behind in
     let k = laid-length fanins ∙ laid-length opening in
+    let z = c .before .before .before .before .before .before .before .before .before .before .before .before .form-for .ensures .1 in
     omega arith
 
 same-length : tie.Need-same-length
@@ -77,11 +88,13 @@ same-length c = search needs
 
 returns : tie.Need-returns
 returns c =
-    let x = c .before .before .before .before .before .before .before .before .before .before .before .before .before .before .before .before .before .before .before .args in
-    let h : length (x .t3 .fanins) ≡ faninPlaces = search needs in
+    let o = c .before .before .before .before .before .before .before .before .before .before .before .before .before .before .before .before in
+    let x = o .before .before .before .before .args in
+    let h = slots o in
     let opening = c .before .before .before .before .before .before .before .before .before .before .before .before .copy .ensures in
     let fanins = c .before .before .before .before .before .before .copy2 .ensures in
-    gate-laid (x .t3) (x .g) (omega arith) opening fanins (c .before .before .put-bytes .ensures)
+    let form = c .before .before .before .before .before .before .before .before .before .before .before .before .before .before .before .form-for .ensures in
+    gate-laid (x .t3) (x .g) _ _ (omega arith) (form .0) (form .1) opening fanins (c .before .before .put-bytes .ensures)
 
 pub put-gate-spec : {M : Type 1} → statement M
 put-gate-spec =
@@ -93,6 +106,7 @@ put-gate-spec =
     mul-b
     cast-e
     add-e
+    form-for-requires
     slice-aggregate-copy
     copy-requires
     sub-copy
