@@ -3,22 +3,23 @@ use mathlib.Core.Bool.{cond}
 use mathlib.Core.List.{List, [], _∷_, _++_}
 use Prim.Native.Nat.{ℕ, zero, suc, _+_}
 use Prim.Native.String.{String}
-use lib.ListN.{length, take, replicate}
+use lib.ListN.{length, take, drop, replicate}
 use Rattle.network.specs.declared.Loaded.{Loaded}
 use Rattle.network.specs.declared.Session.{Session}
-use Rattle.network.specs.Bounds.{excludedWords}
-use Rattle.network.specs.Net.{Net}
+use Rattle.network.specs.Bounds.{mostEntries, excludedWords}
+use Rattle.network.specs.Net.{Net, gate}
+use Rattle.network.specs.Flat.{currentNet}
 use Rattle.network.specs.Refusals.{said}
 use Rattle.network.specs.Tests.{isDone}
 use Rattle.network.specs.Load.{started, withGate}
-use Rattle.network.specs.Examples.{twinSession}
+use Rattle.network.specs.Examples.{twinSession, orSixSession}
 use Rattle.network.specs.Calls.{stored}
 use Rattle.text.specs.Ascii.{ascii}
 use Rattle.text.specs.Numbers.{decimal}
 use Rattle.text.specs.Words.{Text}
 use Rattle.blif.specs.Text.{text}
 use Rattle.blif.specs.Read.{counted, withOutputs, readBlif}
-use Rattle.blif.specs.Write.{outgoing, linesOf, blifText}
+use Rattle.blif.specs.Write.{outgoing, rowsIn, linesOf, blifText, mostBlockBytes, mostBlifBytes}
 
 -- ## A text read: the number of its refusal; else n, the outputs' signals and the tables
 
@@ -37,6 +38,10 @@ header = ascii ".model t\n.inputs a b\n.outputs f\n"
 abbrev body : String → List ℕ
 body s = reads (header ++ ascii s)
 
+-- behind those of seven inputs
+abbrev seven : String → List ℕ
+seven s = reads (ascii ".model t\n.inputs a b c d e f g\n.outputs x\n" ++ ascii s)
+
 -- with c blocks g0, g1, .., each a copy of the input a
 abbrev copiesOfA : ℕ → Text
 copiesOfA zero = []
@@ -54,6 +59,12 @@ tables =
     -- rows may overlap and repeat
     ∷ (reads (ascii ".model vote\n.inputs s1 s2 s3 s4\n.outputs maj\n.names s1 s2 s3 s4 maj\n11-- 1\n1-1- 1\n1--1 1\n-11- 1\n-1-1 1\n--11 1\n11-- 1\n.end\n"), 4 ∷ 4 ∷ 0xFEE8 ∷ [])
     ∷ (reads (ascii ".model t\n.inputs a b c\n.outputs x\n.names a b c nor3\n1-- 0\n-1- 0\n--1 0\n.names a b nand2\n11 0\n.names nor3 nand2 x\n00 0\n11 0\n.end\n"), 3 ∷ 5 ∷ 0x1 ∷ 0x7 ∷ 0x6 ∷ [])
+    -- five fan-ins, and six, whose table has all 64 bits
+    ∷ (seven ".names a b c d e x\n11111 1\n.end\n", 7 ∷ 7 ∷ 0x80000000 ∷ [])
+    ∷ (seven ".names a b c d e f x\n111111 1\n.end\n", 7 ∷ 7 ∷ 0x8000000000000000 ∷ [])
+    ∷ (seven ".names a b c d e f x\n-----1 1\n.end\n", 7 ∷ 7 ∷ 0xFFFFFFFF00000000 ∷ [])
+    ∷ (seven ".names a b c d e f x\n000000 0\n.end\n", 7 ∷ 7 ∷ 0xFFFFFFFFFFFFFFFE ∷ [])
+    ∷ (seven ".names a b c d e f x\n------ 1\n.end\n", 7 ∷ 7 ∷ 0xFFFFFFFFFFFFFFFF ∷ [])
     ∷ []
 
 abbrev pub layouts : List (List ℕ × List ℕ)
@@ -88,8 +99,8 @@ refused =
     ∷ (body ".names f f\n", 18 ∷ [])
     ∷ (body ".names a q f\n", 18 ∷ [])
     ∷ (reads (header ++ (ascii ".names a q f" ++ 0x1F ∷ 0x0A ∷ [])), 17 ∷ [])
-    ∷ (reads (ascii ".model t\n.inputs a b c d e\n.outputs f\n.names a b c d e f\n"), 3 ∷ [])
-    ∷ (reads (ascii ".model t\n.inputs a b c d e\n.outputs f\n.names a b c d e e f\n"), 18 ∷ [])
+    ∷ (seven ".names a b c d e f g x\n", 3 ∷ [])
+    ∷ (seven ".names a b c d e f g g x\n", 18 ∷ [])
     -- a name is known from its block on
     ∷ (body ".names g f\n1 1\n.names a g\n1 1\n.end\n", 18 ∷ [])
     -- a forty-first block
@@ -125,6 +136,10 @@ row c = record {
   outputs = 1 ∷ 1 ∷ [];
 }
 
+-- the rows of the last gate of orSix
+abbrev orRows : List (List Text)
+orRows = rowsIn (gate (currentNet orSixSession) 7) mostEntries
+
 abbrev pub written : List (Text × Text)
 written =
     (blifText twinSession, ascii ".model s\n.inputs s0\n.outputs s3\n.names s0 s1\n1 1\n.names s0 s2\n1 1\n.names s1 s2 s3\n10 1\n01 1\n11 1\n.end\n")
@@ -139,4 +154,10 @@ written =
     ∷ (length (outgoing (row 39) .gates) ∷ length (outgoing (row 40) .gates) ∷ [], 40 ∷ 41 ∷ [])
     -- and back
     ∷ (reads (blifText pair), 2 ∷ 4 ∷ 2 ∷ 5 ∷ 6 ∷ 3 ∷ 7 ∷ 0x8 ∷ 0x1 ∷ 0x2 ∷ 0x2 ∷ 0x2 ∷ 0x2 ∷ [])
+    -- six fan-ins: a row for each of the 63 ones; and back
+    ∷ (length orRows ∷ [], 63 ∷ [])
+    ∷ (text (take 2 orRows ++ drop 62 orRows), ascii "100000 1\n010000 1\n111111 1\n")
+    ∷ (reads (blifText orSixSession), 1 ∷ 7 ∷ 0x2 ∷ 0x2 ∷ 0x2 ∷ 0x2 ∷ 0x2 ∷ 0x2 ∷ 0xFFFFFFFFFFFFFFFE ∷ [])
+    -- the most bytes of a block, and of a text
+    ∷ (mostBlockBytes ∷ mostBlifBytes ∷ [], 611 ∷ 24543 ∷ [])
     ∷ []

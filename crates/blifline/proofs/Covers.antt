@@ -13,7 +13,7 @@ use borrow.Author.Tests.{ltb-true, ltb-false, eqb-true, ne-eqb}
 use Rattle.bits.specs.Bounds.{gatePlaces}
 use Rattle.bits.specs.Range.{num, every}
 use Rattle.bits.specs.Bit.{bit, tableOf}
-use Rattle.bits.proofs.Ranges.{by-cases, bit-table, table-lt}
+use Rattle.bits.proofs.Ranges.{by-cases, bit-table, table-lt, entries-most}
 use Rattle.bits.proofs.BitLaws.{bit-and, bit-or, bit-ext, bit-above, bit-zero}
 use Rattle.text.specs.Words.{Text}
 use Rattle.blif.specs.Cover.{covers, covered, coverTable}
@@ -49,9 +49,6 @@ row-step row w x r t h g = rw add-one (bit-and w x t ∙ rw (h, g))
 
 -- ## The table
 
-pub few : (k : ℕ) → k ≤ gatePlaces → 2 ^ k ≤ 64
-few k h = pow-le-pow-right {n = 2} (omega arith) {i = k} {j = gatePlaces} h
-
 bit-of-table : (n : ℕ) (p : ℕ → Bool) (t : ℕ) → bit (tableOf n p) t ≡ (ltb t n && p t)
 bit-of-table n p t = by-cases (ltb t n) yes no
   where
@@ -86,7 +83,7 @@ cover-is : (k : ℕ) (rows : List Text) (row : Text) (d r : ℕ) → k ≤ gateP
     → ((t : ℕ) → t < 64 → bit r t ≡ (ltb t (2 ^ k) && entryOf rows row d t)) → r ≡ coverTable k (rows ++ row ∷ []) d
 unfolding coverTable
 cover-is k rows row d r l h e =
-    table-is (2 ^ k) r (λ t. Bool·beq (covered (rows ++ row ∷ []) t) (not (eqb d 0x30))) (few k l) h
+    table-is (2 ^ k) r (λ t. Bool·beq (covered (rows ++ row ∷ []) t) (not (eqb d 0x30))) (entries-most k l) h
     (λ t m. e t m ∙ ap (λ (b : Bool). ltb t (2 ^ k) && Bool·beq b (not (eqb d 0x30))) (sym (covered-snoc rows row t)))
 
 old-bit : (k : ℕ) (rows : List Text) (digit table t : ℕ) → table ≡ coverTable k rows digit → bit table t ≡ (ltb t (2 ^ k) && Bool·beq (covered rows t) (not (eqb digit 0x30)))
@@ -148,7 +145,7 @@ module _ (k : ℕ) (rows : List Text) (row : Text) (digit d old w live : ℕ) (f
 -- a block without rows is the constant 0
 pub cover-empty : (k : ℕ) → k ≤ gatePlaces → 0 ≡ coverTable k [] 0
 unfolding coverTable
-cover-empty k l = table-is (2 ^ k) 0 (λ t. Bool·beq (covered [] t) (not (eqb 0 0x30))) (few k l) (omega arith) (λ t m. bit-zero t ∙ sym (and-none (ltb t (2 ^ k))))
+cover-empty k l = table-is (2 ^ k) 0 (λ t. Bool·beq (covered [] t) (not (eqb 0 0x30))) (entries-most k l) (omega arith) (λ t m. bit-zero t ∙ sym (and-none (ltb t (2 ^ k))))
   where
     and-none : (a : Bool) → (a && false) ≡ false
     and-none true = refl

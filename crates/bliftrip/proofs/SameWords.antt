@@ -20,7 +20,7 @@ use Rattle.network.specs.Compatible.{openTables}
 use Rattle.network.specs.Flat.{gateAt, gatesOf, netOf, loadedNet, currentNet}
 use Rattle.network.specs.Tests.{refuseIf}
 use Rattle.network.specs.Load as load
-use Rattle.network.specs.Load.{started, loadDone, withOutput, outputRecord, readOutputs, faninsIn, tableIn, afterFanins, withGate, gateRecord, readGates, setBytes, excludedIn, withExcluded, isExcluded, excludedRecord, readBody, headerTests, headerRecord, readOf, opened, loadOf}
+use Rattle.network.specs.Load.{started, loadDone, withOutput, outputRecord, readOutputs, faninsIn, tableIn, afterFanins, withGate, formOf, gateRecord, readGates, setBytes, excludedIn, withExcluded, isExcluded, excludedRecord, readBody, headerTests, headerRecord, readOf, opened, loadOf}
 use Rattle.network.specs.Write.{bytesOf}
 use Rattle.network.specs.Valid.{Sized}
 use Rattle.network.proofs.Fresh.{Fresh}
@@ -28,7 +28,7 @@ use Rattle.network.proofs.TestLaws.{clear-e, short-e, count-e, went}
 use Rattle.network.proofs.FlatGates.{arity-at, table-at, fanin-at, length-gates}
 use Rattle.network.proofs.Earlier.{gates-at}
 use Rattle.network.proofs.Slots.{sized-started, sized-gate}
-use Rattle.network.proofs.Reached.{load-read, loaded-fresh, loaded-sized}
+use Rattle.network.proofs.Reached.{form-fine, load-read, loaded-fresh, loaded-sized}
 use Rattle.network.proofs.Valid.{state-i}
 use Rattle.network.proofs.Demand3.{demand3-of, rule4-of}
 use Rattle.network.proofs.Inside.{inside-of}
@@ -62,14 +62,15 @@ module _ (u : Session) where
   gates-tidy zero g t rest e most sized tidy h = let q : g ≡ t .m = omega arith in outputs-tidy (t .p) 0 t rest (omega arith) (rw q at tidy) h
   gates-tidy (suc c) g t rest e most sized tidy h =
       let k = getD rest 2 0 in
+      let f = formOf rest in
       let fs = faninsIn rest in
       let t' = withGate t g k fs (tableIn rest) in
-      let w = went (gateRecord (t .n + g) rest) (readGates c (g + 1) t' (drop 2 (afterFanins rest))) u h in
-      let q = clear-e (load.gateTests (t .n + g) rest) (w .0) in
-      let kb = count-e mostFanins k (q .1 .1 .0) in
-      let l = short-e (k + 2) (drop 3 rest) (q .1 .1 .1 .0) in
+      let w = went (gateRecord (t .n + g) rest) (readGates c (g + 1) t' (drop (f .bytes) (afterFanins rest))) u h in
+      let q = clear-e (load.gateTests f (t .n + g) rest) (w .0) in
+      let kb = count-e mostFanins k (form-fine rest k (q .1 .1 .0)) in
+      let l = short-e (k + f .bytes) (drop 3 rest) (q .1 .1 .1 .0) in
       let len = length-take-le k (drop 3 rest) (omega arith) in
-      gates-tidy c (g + 1) t' (drop 2 (afterFanins rest)) (omega arith) most (sized-gate t g k fs (tableIn rest) sized)
+      gates-tidy c (g + 1) t' (drop (f .bytes) (afterFanins rest)) (omega arith) most (sized-gate t g k fs (tableIn rest) sized)
       (tidy-gate t g k fs (tableIn rest) sized (omega arith) len (omega arith) tidy) (w .1)
 
   words-tidy : (n m p : ℕ) (ws rest : List ℕ) → m ≤ mostGates → length ws ≡ excludedWords

@@ -18,6 +18,7 @@ use bits::GATE_PLACES;
 use bits::MOST_INPUTS;
 use network::Answer;
 use network::EXCLUDED_WORDS;
+use network::MOST_ENTRIES;
 use network::MOST_FANINS;
 use network::MOST_GATES;
 use network::MOST_OUTPUTS;
@@ -27,7 +28,7 @@ use network::WriteAnswer;
 
 // The most bytes of a block, a row for each entry, and of a text: its first three lines, the blocks, the last line. A name has three
 // bytes at the most, and a space before it.
-const MOST_BLOCK_BYTES: usize = 7 + 4 * (MOST_FANINS + 1) + (1 << MOST_FANINS) * (MOST_FANINS + 3);
+const MOST_BLOCK_BYTES: usize = 7 + 4 * (MOST_FANINS + 1) + MOST_ENTRIES * (MOST_FANINS + 3);
 
 pub const MOST_BLIF_BYTES: usize = 9
     + (8 + 4 * MOST_INPUTS)
@@ -313,6 +314,10 @@ pub fn write(s: Session, buf: &mut [u8]) -> WriteAnswer
     let c = copies_test(s);
     if let Answer::Refused(r) = c {
         return WriteAnswer::Refused(r);
+    }
+    if MOST_BLIF_BYTES <= buf.len() {
+        let size = put_blif(buf, s);
+        return WriteAnswer::Written(size);
     }
     let mut text = [0u8; MOST_BLIF_BYTES];
     let n = put_blif(&mut text, s);

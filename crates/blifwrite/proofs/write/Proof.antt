@@ -1,4 +1,4 @@
--- `write`: 3, then 9, else the text. Assumes nothing.
+-- `write`: 3, then 9, else the text: into the buffer at once where it is long enough for every text. Assumes nothing.
 use mathlib.Core.Path.{sym, _∙_}
 use Prim.Native.Nat.{_≤_, _<_}
 use native.Mathlib.Omega.{arith}
@@ -26,23 +26,45 @@ returns c =
 enum-told : tie.Need-enum-told
 enum-told c = search needs
 
-slice-aggregate-put-blif : tie.Need-slice-aggregate-put-blif
-slice-aggregate-put-blif c = search needs
-
 put-blif-requires : tie.Need-put-blif-requires
 put-blif-requires c κs =
-    let b = c .before in
+    let b = c .before .before in
     let t = b .before .before in
-    (t .before .before .pre, sym (t .copies-test .ensures) ∙ b .enum-told .given .1, search needs)
+    (t .before .before .pre, sym (t .copies-test .ensures) ∙ b .enum-told .given .1, c .before .if1 .taken)
+
+same-length : tie.Need-same-length
+same-length c = search needs
 
 returns-2 : tie.Need-returns-2
 returns-2 c =
     let p = c .before .before in
-    let b = p .before .before in
+    let i = p .before .before in
+    let b = i .before in
     let t = b .before .before in
     let start = t .before .before in
     let x = start .args in
-    let n = p .put-blif .ensures .0 .behind in
+    let l = p .put-blif .ensures in
+    let h : length (blifText (x .s)) ≤ length (x .buf .now) = omega (arith, l .1, i .if1 .taken) in
+    let w = laid-start (x .buf .now) (blifText (x .s)) (p .put-blif .last .0) (p .put-blif .result) h (l .0) in
+    rw (w .0, w .1, written-done (x .s) (x .buf .now) (start .pre) (sym (t .copies-test .ensures) ∙ b .enum-told .given .1) h)
+
+slice-aggregate-put-blif : tie.Need-slice-aggregate-put-blif
+slice-aggregate-put-blif c = search needs
+
+put-blif-requires-2 : tie.Need-put-blif-requires-2
+put-blif-requires-2 c κs =
+    let b = c .before .before in
+    let t = b .before .before in
+    (t .before .before .pre, sym (t .copies-test .ensures) ∙ b .enum-told .given .1, search needs)
+
+returns-3 : tie.Need-returns-3
+returns-3 c =
+    let p = c .before .before in
+    let b = p .before .before .before in
+    let t = b .before .before in
+    let start = t .before .before in
+    let x = start .args in
+    let n = p .put-blif2 .ensures .0 .behind in
     let h : length (x .buf .now) < length (blifText (x .s)) = omega arith in
     sym (written-short (x .s) (x .buf .now) (start .pre) (sym (t .copies-test .ensures) ∙ b .enum-told .given .1) h)
 
@@ -58,22 +80,22 @@ part-copy-end c = search needs
 copy-requires : tie.Need-copy-requires
 copy-requires c κs = search needs
 
-same-length : tie.Need-same-length
-same-length c = search needs
+same-length-2 : tie.Need-same-length-2
+same-length-2 c = search needs
 
-returns-3 : tie.Need-returns-3
-returns-3 c =
+returns-4 : tie.Need-returns-4
+returns-4 c =
     let y = c .before .before in
     let e = y .before .before .before .before in
     let p = e .before .before in
-    let b = p .before .before in
+    let b = p .before .before .before in
     let t = b .before .before in
     let start = t .before .before in
     let x = start .args in
     let text = blifText (x .s) in
-    let l = p .put-blif .ensures in
+    let l = p .put-blif2 .ensures in
     let n = l .0 .behind in
-    let h : length text ≤ length (x .buf .now) = omega (arith, e .if1 .left) in
+    let h : length text ≤ length (x .buf .now) = omega (arith, e .if2 .left) in
     let q = laid-part text (l .0) (search needs) in
     let w = laid-start (x .buf .now) text (y .copy .last .0) (y .copy .result) h (rw q at (y .copy .ensures)) in
     rw (w .0, w .1, written-done (x .s) (x .buf .now) (start .pre) (sym (t .copies-test .ensures) ∙ b .enum-told .given .1) h)
@@ -86,12 +108,15 @@ write-spec =
     enum-known-c
     returns
     enum-told
-    slice-aggregate-put-blif
     put-blif-requires
+    same-length
     returns-2
+    slice-aggregate-put-blif
+    put-blif-requires-2
+    returns-3
     sub-copy
     part-copy-start
     part-copy-end
     copy-requires
-    same-length
-    returns-3)
+    same-length-2
+    returns-4)

@@ -4,7 +4,8 @@ use native.Mathlib.Omega.{arith}
 use lib.Bits.{bitAnd, and-lt, or-lt}
 use lib.Dec.{ltb}
 use borrow.Author.Needs.{needs}
-use Rattle.blifline.proofs.Covers.{few, zero-first, zero-next, one-next}
+use Rattle.bits.proofs.Ranges.{entries-most}
+use Rattle.blifline.proofs.Covers.{zero-first, zero-next, one-next}
 use Rattle.blifline.proofs.rows.row_table.Statement.{statement}
 use Rattle.blifline.proofs.rows.row_table.Tie as tie
 
@@ -15,10 +16,10 @@ power-requires : tie.Need-power-requires
 power-requires c κs = search needs
 
 cast-mask : tie.Need-cast-mask
-cast-mask c = let e = few (c .before .before .before .args .k) (search needs) in omega arith
+cast-mask c = let e = entries-most (c .before .before .before .args .k) (search needs) in omega arith
 
 mask-requires : tie.Need-mask-requires
-mask-requires c κs = let e = few (c .before .before .before .args .k) (search needs) in omega arith
+mask-requires c κs = let e = entries-most (c .before .before .before .args .k) (search needs) in omega arith
 
 complement-requires : tie.Need-complement-requires
 complement-requires c κs = search needs
