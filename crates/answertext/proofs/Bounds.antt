@@ -6,12 +6,13 @@ use mathlib.Core.List.{List, [], _∷_}
 use Prim.Native.Nat.{ℕ, zero, suc, _^_, _<_, _≤_}
 use native.Mathlib.Omega.{arith}
 use lib.Pow.{pow-mono}
-use lib.ListN.{length, length-map}
+use lib.ListN.{length, getD, length-map}
 use Rattle.bits.specs.Bounds.{mostInputs}
 use Rattle.network.specs.declared.Session.{Session}
 use Rattle.network.specs.declared.Refusal.{Refusal}
 use Rattle.network.specs.declared.Answer.{Answer}
 use Rattle.network.specs.declared.Answer.the-variants.{Done, Refused}
+use Rattle.network.specs.Bounds.{mostEntries}
 use Rattle.network.specs.Net.{Net, isGate, entries, patterns, Replacement}
 use Rattle.network.specs.Flat.{netOf, loadedNet}
 use Rattle.network.specs.Load.{loadOf, loadDone}
@@ -27,7 +28,7 @@ use Rattle.desk.specs.declared.Reply.the-variants.{Open, Alone, Harmful, PairRe
 use Rattle.network.specs.Calls.{pairsTest, refusedAt}
 use Rattle.network.specs.Lists.{Sound}
 use Rattle.desk.specs.Reply.{replyOf}
-use Rattle.desk.specs.Answer.{answerText}
+use Rattle.desk.specs.Answer.{noPair, answerText}
 use Rattle.answertext.specs.Prints.{entryOf, Shown, AllShown, Prints, PrintsOf, RoomOf}
 use Rattle.desk.specs.Promises.{replacements, Comes}
 use Rattle.network.proofs.Lists.{sound-e}
@@ -35,7 +36,7 @@ use Rattle.desk.proofs.Replies.{reply-loaded, answer-loaded}
 use Rattle.desk.proofs.Comes.{OfPair, pairs-only, pair-reply, comes}
 use Rattle.desk.proofs.Lengths.{gate-entries, outputs-few, answer-length}
 
-entry-small : (N : Net) (r : Replacement) (a : Answer) → (isGate N (r .signal) ≡ true → entries N (r .signal) ≤ 16) → Cause N r a → entryOf a < 10000
+entry-small : (N : Net) (r : Replacement) (a : Answer) → (isGate N (r .signal) ≡ true → entries N (r .signal) ≤ mostEntries) → Cause N r a → entryOf a < 10000
 entry-small N r a f (no-gate p) = omega arith
 entry-small N r a f (too-wide p q) = omega arith
 entry-small N r a f (closes t p q w) = let e = f p in omega (arith, w .0)
@@ -55,23 +56,26 @@ module _ (s : Session) (fresh : Fresh s) where
         entry = subst (λ (a : Answer). entryOf a < 10000) (sym (answer-loaded s fresh r)) (entry-small L r (answerBy L r) (gate-entries s fresh (r .signal)) (answer-because L r));
       }
 
-  all-shown : (named : List ℕ) (ps : List Pair) → Sound L named (replacements ps) → AllShown s ps
-  all-shown named [] a i h = absurd (omega arith)
-  all-shown named (p ∷ ps) a zero h = shown (replacementOf p) (a .0)
-  all-shown named (p ∷ ps) a (suc i) h = all-shown (signalOf p ∷ named) ps (a .3) i (omega arith)
+  each-shown : (named : List ℕ) (ps : List Pair) → Sound L named (replacements ps) → (i : ℕ) → i < length ps → Shown s (replacementOf (getD ps i noPair))
+  each-shown named [] a i h = absurd (omega arith)
+  each-shown named (p ∷ ps) a zero h = shown (replacementOf p) (a .0)
+  each-shown named (p ∷ ps) a (suc i) h = each-shown (signalOf p ∷ named) ps (a .3) i (omega arith)
+
+  all-shown : (ps : List Pair) → Sound L [] (replacements ps) → AllShown s ps
+  all-shown ps a = record { gates = net-ok s (fresh .valid) .most; each = each-shown [] ps a }
 
   patterns-few : patterns L ≤ 2 ^ mostInputs
   unfolding loadedNet netOf
   patterns-few = pow-mono {j = mostInputs} (net-ok s (fresh .valid) .ins)
 
   sound-prints : (ps : List Pair) → Sound L [] (replacements ps) → (q : Reply) → Comes s ps q → Prints s ps q
-  sound-prints ps a Open c = all-shown [] ps a
-  sound-prints ps a Alone c = all-shown [] ps a
+  sound-prints ps a Open c = all-shown ps a
+  sound-prints ps a Alone c = all-shown ps a
   sound-prints ps a (Harmful x i) c =
       let n = net-ok s (fresh .valid) .ins in
       let p = patterns-few in
       let o = outputs-few s fresh in
-      (n, omega (arith, c .0), omega (arith, c .1), all-shown [] ps a)
+      (n, omega (arith, c .0), omega (arith, c .1), all-shown ps a)
   sound-prints ps a (PairRefused r k) c = c
   sound-prints ps a (FileRefused r) c = tt
 

@@ -15,6 +15,7 @@ use Rattle.network.specs.declared.Exchanged.{Exchanged}
 use Rattle.network.specs.declared.Answer.{Answer}
 use Rattle.network.specs.declared.Answer.the-variants.{Done, Refused}
 use Rattle.network.specs.Net.{Replacement}
+use Rattle.network.specs.Flat.{loadedNet}
 use Rattle.network.specs.Refusals.{numberOf, valuesOf}
 use Rattle.network.specs.Calls.{exchangeAnswer, exchanged, exchangeOf}
 use Rattle.network.proofs.Said.{told-by}
@@ -23,6 +24,7 @@ use Rattle.buffer.proofs.Laying.{laid-append, laid-length, pending-start, pendi
 use Rattle.text.specs.Numbers.{hex, decimal}
 use Rattle.text.specs.Ascii.{ascii}
 use Rattle.text.specs.Words.{Text}
+use Rattle.tabletext.specs.Digits.{digits}
 use Rattle.ordertext.specs.declared.Order.{Order}
 use Rattle.ordertext.specs.Order.{Pair, signalNamed, replacementOf}
 use Rattle.ordertext.specs.Reads.{pairIn, countIn, Reads, pairsGiven}
@@ -165,8 +167,8 @@ closed-pieces a r t e h = rw (e, h) (two (ascii ": entry " ++ decimal (getD (val
 pub entry-few : (a : Answer) (r : Refusal) (t : ℕ) → a ≡ Refused r → t ≡ getD (valuesOf r) 0 0 → entryOf a < 10000 → t < 10000
 entry-few a r t e h l = rw h (rw e at l)
 
-abbrev pub pairPieces : (name : Text) (old table : ℕ) → Answer → List Text
-pairPieces name old table a = (ascii "gate " ++ name ++ ascii " from ") ∷ hex old ∷ ascii " to " ∷ hex table ∷ openText a ∷ []
+abbrev pub pairPieces : (name : Text) (c old table : ℕ) → Answer → List Text
+pairPieces name c old table a = (ascii "gate " ++ name ++ ascii " from ") ∷ hex c old ∷ ascii " to " ∷ hex c table ∷ openText a ∷ []
 
 pair-row : (a b c d e f g : Text) → a ++ b ++ c ++ d ++ e ++ f ++ g ≡ joined ((a ++ b ++ c) ∷ d ∷ e ∷ f ∷ g ∷ [])
 pair-row a b c d e f g = simp (append-assoc, append-nil)
@@ -179,15 +181,17 @@ pub exchange-answer : (s : Session) (r : Replacement) (x : Exchanged) → x ≡ 
 unfolding exchangeOf
 exchange-answer s r x e = ap {B = Answer} (λ (y : Exchanged). y .answer) e ∙ answer-in (exchangeAnswer s r) s r
 
-module _ (s : Session) (name : Text) (gate table : ℕ) (x : Exchanged) (g : gate ≡ signalNamed name) (e : x ≡ exchangeOf s (record { signal = gate; table = table })) where
+module _ (s : Session) (name : Text) (gate table c : ℕ) (x : Exchanged) (g : gate ≡ signalNamed name) (d : c ≡ digits (loadedNet s))
+    (e : x ≡ exchangeOf s (record { signal = gate; table = table })) where
   answer-of : x .answer ≡ exchangeAnswer s (record { signal = gate; table = table })
   answer-of = exchange-answer s (record { signal = gate; table = table }) x e
 
-  pub pair-pieces : pairLine s (record { gate = name; table = table }) ≡ joined (pairPieces name (getD (s .loaded) (gate - s .n) 0) table (x .answer))
+  pub pair-pieces : pairLine s (record { gate = name; table = table }) ≡ joined (pairPieces name c (getD (s .loaded) (gate - s .n) 0) table (x .answer))
   unfolding pairLine
   pair-pieces =
-      rw (answer-of, g)
-      (pair-row (ascii "gate ") name (ascii " from ") (hex (getD (s .loaded) (signalNamed name - s .n) 0)) (ascii " to ") (hex table)
+      rw (answer-of, g, d)
+      (pair-row (ascii "gate ") name (ascii " from ") (hex (digits (loadedNet s)) (getD (s .loaded) (signalNamed name - s .n) 0)) (ascii " to ")
+      (hex (digits (loadedNet s)) table)
       (openText (exchangeAnswer s (record { signal = signalNamed name; table = table }))))
 
   pub pair-entry : Shown s (record { signal = gate; table = table }) → entryOf (x .answer) < 10000
@@ -206,7 +210,7 @@ module _ (text : Text) (o : Order) (r : Reads text o) (s : Session) (i : ℕ) (h
   pub given-shown : AllShown s (pairsGiven text o) → Shown s (record { signal = getD (o .gates) i 0; table = getD (o .tables) i 0 })
   given-shown a =
       let l = given-length text o r in
-      rw (given-signal text o r i h) (subst (λ (p : Pair). Shown s (replacementOf p)) (given-at text o r noPair i h) (a i (omega arith)))
+      rw (given-signal text o r i h) (subst (λ (p : Pair). Shown s (replacementOf p)) (given-at text o r noPair i h) (a .each i (omega arith)))
 
   pub given-line : pairLines s (drop i (pairsGiven text o)) ≡ pairLine s (pairIn text o i) ++ pairLines s (drop (i + 1) (pairsGiven text o))
   given-line =

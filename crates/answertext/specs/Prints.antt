@@ -31,8 +31,9 @@ pub record Shown (s : Session) (r : Replacement) : Type 0 where
   pub below : r .signal < s .n + mostGates
   pub entry : entryOf (exchangeAnswer s r) < 10000
 
-abbrev pub AllShown : Session → List Pair → Type 0
-AllShown s ps = (i : ℕ) → i < length ps → Shown s (replacementOf (getD ps i noPair))
+pub record AllShown (s : Session) (ps : List Pair) : Type 0 where
+  pub gates : s .m ≤ mostGates
+  pub each : (i : ℕ) → i < length ps → Shown s (replacementOf (getD ps i noPair))
 
 -- the bounds within which an answer is printed
 abbrev pub Prints : Session → List Pair → Reply → Type 0

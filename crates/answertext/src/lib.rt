@@ -4,9 +4,11 @@ ghost use mathlib.Core.List.{[], _++_};
 ghost use Prim.Native.Nat.{_-_, _<_, _≤_};
 ghost use lib.ListN.{length, getD};
 ghost use Rattle.bits.specs.Bounds.{mostInputs};
+ghost use Rattle.network.specs.Flat.{loadedNet};
 ghost use Rattle.network.specs.Refusals.{valuesOf};
 ghost use Rattle.buffer.specs.Laid.{Room, Laid};
 ghost use Rattle.text.specs.Numbers.{decimal};
+ghost use Rattle.tabletext.specs.Digits as tables;
 ghost use Rattle.ordertext.specs.Order.{signalNamed, orderOf, pairsOf};
 ghost use Rattle.ordertext.specs.Reads.{pairsGiven, Reads};
 ghost use Rattle.desk.specs.Promises.{mostAnswerBytes};
@@ -159,9 +161,18 @@ fn put_open(buf: &mut [u8], at: usize, a: Answer) -> usize
     buffer::copy(buf, at, b": open\n")
 }
 
-// The line of one pair.
-fn put_pair(buf: &mut [u8], at: usize, s: Session, name: &[u8], gate: u64, table: u64) -> usize
-    requires { ⌜ (gate ≡ signalNamed (now name)) × Shown s (record { signal = gate; table = table }) × Room (now buf) at (pairLine s (record { gate = now name; table = table })) ⌝ }
+// The line of one pair, its tables with so many digits.
+fn put_pair(
+    buf: &mut [u8],
+    at: usize,
+    s: Session,
+    name: &[u8],
+    gate: u64,
+    table: u64,
+    digits: usize,
+) -> usize
+    requires { ⌜ (gate ≡ signalNamed (now name)) × (digits ≡ tables.digits (loadedNet s)) ⌝ }
+    requires { ⌜ Shown s (record { signal = gate; table = table }) × Room (now buf) at (pairLine s (record { gate = now name; table = table })) ⌝ }
     ensures { λ r. ⌜ Laid (now (buf .entry)) at (pairLine s (record { gate = now (name .entry); table = table })) (now (buf .exit)) r ⌝ }
 {
     let signal = gate as usize;
@@ -171,9 +182,9 @@ fn put_pair(buf: &mut [u8], at: usize, s: Session, name: &[u8], gate: u64, table
     let x = engine::exchange(s, signal, table);
     let y = x.answer;
     let a = put_around(buf, at, b"gate ", name, b" from ");
-    let b = text::put_hex(buf, a, old);
+    let b = text::put_hex(buf, a, old, digits);
     let c = buffer::copy(buf, b, b" to ");
-    let d = text::put_hex(buf, c, table);
+    let d = text::put_hex(buf, c, table, digits);
     put_open(buf, d, y)
 }
 
@@ -183,13 +194,14 @@ fn put_pairs(buf: &mut [u8], at: usize, s: Session, text: &[u8], o: Order) -> us
 {
     let case = o.case;
     let n = ordertext::count(case);
+    let digits = tabletext::digits_of(s);
     let mut a = at;
     let mut i: usize = 0;
     while i < n {
         let gate = o.gates[i];
         let table = o.tables[i];
         let name = ordertext::name(text, o, i);
-        a = put_pair(buf, a, s, name, gate, table);
+        a = put_pair(buf, a, s, name, gate, table, digits);
         i += 1;
     }
     a

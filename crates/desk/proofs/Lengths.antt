@@ -17,7 +17,7 @@ use Rattle.network.specs.declared.Refusal.{Refusal}
 use Rattle.network.specs.declared.Refusal.the-variants.{Truncated, UnexpectedMark, OutOfBounds, FaninNotEarlier, FaninRepeated, BitPastEnd, NotASignal, TrailingBytes, BufferTooShort, InvalidState, NotAGate, TableTooWide, ClosedEntry, Harm, ListsUnequal, GateRepeated, OutsideSubset, BadName}
 use Rattle.network.specs.declared.Answer.{Answer}
 use Rattle.network.specs.declared.Answer.the-variants.{Done, Refused}
-use Rattle.network.specs.Bounds.{mostFanins}
+use Rattle.network.specs.Bounds.{mostFanins, mostEntries}
 use Rattle.network.specs.Net.{Net, isGate, entries, Replacement}
 use Rattle.network.specs.Flat.{netOf, loadedNet}
 use Rattle.network.specs.Refusals.{numberOf}
@@ -32,6 +32,8 @@ use Rattle.network.proofs.Exchanges.{no-gate, too-wide, closes, accepts, Cause,
 use Rattle.network.proofs.Reached.{loaded-fresh}
 use Rattle.text.specs.Numbers.{decimal}
 use Rattle.text.proofs.Digits.{length-decimal, length-hex}
+use Rattle.tabletext.specs.Digits.{digits}
+use Rattle.tabletext.proofs.DigitLaws.{digits-few}
 use Rattle.ordertext.specs.Order.{mostOrderBytes, Pair, Pairs, isNumeral, signalNamed, signalOf, replacementOf, orderOf}
 use Rattle.ordertext.proofs.Numerals.{numeral-e}
 use Rattle.ordertext.proofs.Names.{Short, names-short}
@@ -39,7 +41,7 @@ use Rattle.desk.specs.declared.Reply.{Reply}
 use Rattle.desk.specs.declared.Reply.the-variants.{Open, Alone, Harmful, PairRefused, FileRefused}
 use Rattle.desk.specs.Reply.{replyOf}
 use Rattle.desk.specs.Answer.{openLine, aloneLine, lineOn, onLines, linesOn, harmLine, refusedLine, reasons, fileLine, pairRefusedLine, openText, pairLine, pairLines, noPair, answerFor, answerText}
-use Rattle.desk.specs.Promises.{replacements, Comes, mostAnswerBytes, mostRefusalBytes, AnswerLengthOf}
+use Rattle.desk.specs.Promises.{replacements, Comes, mostLineBytes, mostAnswerBytes, mostRefusalBytes, AnswerLengthOf}
 use Rattle.desk.proofs.Replies.{reply-loaded, answer-loaded}
 use Rattle.desk.proofs.Comes.{OfPair, pairs-only, of-pair, fault-gate, pair-reply, comes}
 
@@ -118,15 +120,17 @@ pair-refused-length r gate =
 
 -- ## A line for each pair
 
-line-length : (s : Session) (q : Pair) → length (q .gate) ≤ 4 → length (openText (exchangeAnswer s (replacementOf q))) ≤ 21 → length (pairLine s q) ≤ 48
+line-length : (s : Session) (q : Pair) → length (q .gate) ≤ 4 → length (openText (exchangeAnswer s (replacementOf q))) ≤ 21 → length (pairLine s q) ≤ mostLineBytes
 unfolding pairLine
 line-length s q h k =
-    let a = length-hex (getD (s .loaded) (signalOf q - s .n) 0) in
-    let b = length-hex (q .table) in
+    let d = digits (loadedNet s) in
+    let few = digits-few (loadedNet s) in
+    let a = length-hex d (getD (s .loaded) (signalOf q - s .n) 0) in
+    let b = length-hex d (q .table) in
     simp length-append (omega arith)
 
 -- 13's entry has two digits at the most
-open-length : (N : Net) (r : Replacement) (a : Answer) → (isGate N (r .signal) ≡ true → entries N (r .signal) ≤ 16) → Cause N r a → length (openText a) ≤ 21
+open-length : (N : Net) (r : Replacement) (a : Answer) → (isGate N (r .signal) ≡ true → entries N (r .signal) ≤ mostEntries) → Cause N r a → length (openText a) ≤ 21
 open-length N r a f (no-gate p) = let d = decimal-two 0 (omega arith) in simp length-append (omega arith)
 open-length N r a f (too-wide p q) = let d = decimal-two 0 (omega arith) in simp length-append (omega arith)
 open-length N r a f (closes t p q w) = let e = f p in let d = decimal-two t (omega (arith, w .0)) in simp length-append (omega arith)
@@ -136,7 +140,7 @@ module _ (s : Session) (fresh : Fresh s) where
   abbrev L : Net
   L = loadedNet s
 
-  pub gate-entries : (k : ℕ) → isGate L k ≡ true → entries L k ≤ 16
+  pub gate-entries : (k : ℕ) → isGate L k ≡ true → entries L k ≤ mostEntries
   unfolding loadedNet
   gate-entries k w =
       let b = gate-e s k w in
@@ -154,7 +158,7 @@ module _ (s : Session) (fresh : Fresh s) where
       by-cases (isNumeral 10 4 (q .gate)) (λ e. numeral-e 10 4 (q .gate) e .1)
       (λ e. let z : signalNamed (q .gate) ≡ 10000 = rw e in absurd (omega arith))
 
-  pairs-length : (named : List ℕ) (ps : List Pair) → Sound L named (replacements ps) → length (pairLines s ps) ≤ 48 * length ps
+  pairs-length : (named : List ℕ) (ps : List Pair) → Sound L named (replacements ps) → length (pairLines s ps) ≤ mostLineBytes * length ps
   pairs-length named [] a = omega arith
   pairs-length named (q ∷ ps) a =
       let r = replacementOf q in

@@ -9,12 +9,14 @@ use Rattle.network.specs.declared.Session.{Session}
 use Rattle.network.specs.declared.Refusal.{Refusal}
 use Rattle.network.specs.declared.Answer.{Answer}
 use Rattle.network.specs.declared.Answer.the-variants.{Done, Refused}
+use Rattle.network.specs.Flat.{loadedNet}
 use Rattle.network.specs.Refusals.{numberOf, valuesOf}
 use Rattle.network.specs.Load.{loadOf}
 use Rattle.network.specs.Calls.{exchangeAnswer}
 use Rattle.text.specs.Numbers.{hex, decimal}
 use Rattle.text.specs.Ascii.{ascii}
 use Rattle.text.specs.Words.{Text}
+use Rattle.tabletext.specs.Digits.{digits}
 use Rattle.ordertext.specs.Order.{Pair, signalOf, replacementOf}
 use Rattle.desk.specs.declared.Reply.{Reply}
 use Rattle.desk.specs.declared.Reply.the-variants.{Open, Alone, Harmful, PairRefused, FileRefused}
@@ -76,11 +78,12 @@ abbrev pub openText : Answer → Text
 openText Done = ascii ": open\n"
 openText (Refused r) = ascii ": entry " ++ decimal (getD (valuesOf r) 0 0) ++ ascii " is closed\n"
 
+-- tables as in the listing
 unfoldable pub pairLine : Session → Pair → Text
 pairLine s p =
     ascii "gate " ++ p .gate
-    ++ ascii " from " ++ hex (getD (s .loaded) (signalOf p - s .n) 0)
-    ++ ascii " to " ++ hex (p .table)
+    ++ ascii " from " ++ hex (digits (loadedNet s)) (getD (s .loaded) (signalOf p - s .n) 0)
+    ++ ascii " to " ++ hex (digits (loadedNet s)) (p .table)
     ++ openText (exchangeAnswer s (replacementOf p))
 
 abbrev pub pairLines : Session → List Pair → Text

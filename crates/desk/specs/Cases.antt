@@ -5,13 +5,14 @@ use lib.ListN.{replicate, take, drop}
 use Rattle.network.specs.declared.Session.{Session}
 use Rattle.network.specs.Load.{loadOf}
 use Rattle.network.specs.Refusals.{said}
-use Rattle.network.specs.Examples.{twinBytes, twinSession, held}
+use Rattle.network.specs.Examples.{twinBytes, twinSession, orSixSession, held}
 use Rattle.network.specs.Cases.{numbers}
 use Rattle.text.specs.Ascii.{ascii}
 use Rattle.text.specs.Words.{Text}
 use Rattle.ordertext.specs.Order.{replacementOf, orderOf, pairsOf}
 use Rattle.desk.specs.Reply.{replyOn, boardOf}
 use Rattle.desk.specs.Answer.{openLine, aloneLine, answerFor, answerText}
+use Rattle.desk.specs.Promises.{mostAnswerBytes, mostRefusalBytes}
 
 -- the answer on a loaded board
 abbrev pub asked : Session → Text → Text
@@ -54,6 +55,10 @@ answered =
     ∷ (asked xorSession (ascii " 1=1"), ascii "no: output 0 changes at pattern 0, lines on: none\ngate 1 from 0002 to 0001: entry 0 is closed\n")
     ∷ (asked xorSession (ascii " 1=1 2=1"), aloneLine ++ ascii "gate 1 from 0002 to 0001: entry 0 is closed\ngate 2 from 0002 to 0001: entry 0 is closed\n")
     ∷ (asked twin1Session (ascii " 1=0 2=0"), openLine ++ ascii "gate 1 from 0002 to 0000: open\ngate 2 from 0002 to 0000: open\n")
+    -- a gate of six fan-ins on the board: sixteen digits at every gate
+    ∷ (asked orSixSession (ascii " 7=ffffffff00000000"), openLine ++ ascii "gate 7 from fffffffffffffffe to ffffffff00000000: open\n")
+    ∷ (asked orSixSession (ascii " 6=0"), aloneLine ++ ascii "gate 6 from 0000000000000002 to 0000000000000000: entry 1 is closed\n")
+    ∷ (asked orSixSession (ascii " 7=0"), harmed ++ ascii "gate 7 from fffffffffffffffe to 0000000000000000: entry 32 is closed\n")
     ∷ []
 
 abbrev pub refused : List (List ℕ × List ℕ)
@@ -74,3 +79,7 @@ refused =
 -- the new board has the ordered tables
 abbrev pub written : List (List ℕ × List ℕ)
 written = (boardOf twinBytes (pairsOf (orderOf (ascii " 3=6"))), xorBytes) ∷ []
+
+-- the most bytes of an answer, and of one that refuses a pair
+abbrev pub sizes : List (ℕ × ℕ)
+sizes = (mostAnswerBytes, 2948) ∷ (mostRefusalBytes, 1046) ∷ []

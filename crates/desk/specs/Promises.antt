@@ -16,6 +16,7 @@ use Rattle.network.specs.Load.{loadOf, loadDone}
 use Rattle.network.specs.Calls.{exchangeAnswer, pairsTest}
 use Rattle.network.specs.Sessions.{after, answers, NoHarm, FirstHarm}
 use Rattle.bits.specs.Lists.{Bytes}
+use Rattle.text.specs.Numbers.{wordDigits}
 use Rattle.text.specs.Ascii.{ascii}
 use Rattle.ordertext.specs.Order.{mostOrderBytes, Pair, replacementOf, Pairs, orderOf}
 use Rattle.desk.specs.declared.Reply.{Reply}
@@ -150,9 +151,13 @@ DecidedOf = (file : List ℕ) (ps : List Pair) → Decided file ps
 
 -- ## How long an answer to an order's text is
 
--- a line for each gate at the most, and the first line
+-- a pair's line: the gate in four digits, two tables in sixteen, and `: entry 63 is closed`
+abbrev pub mostLineBytes : ℕ
+mostLineBytes = (5 + 4) + (6 + wordDigits) + (4 + wordDigits) + 21
+
+-- the first line, and a line for each gate at the most
 abbrev pub mostAnswerBytes : ℕ
-mostAnswerBytes = 68 + mostGates * 48
+mostAnswerBytes = 68 + mostGates * mostLineBytes
 
 -- a name has = and a digit of the text behind it
 abbrev pub mostRefusalBytes : ℕ

@@ -16,7 +16,7 @@ use ordertext::Order;
 use streams::Taken;
 
 // Room for every answer to such an order.
-const ANSWER_BYTES: usize = 2048;
+const ANSWER_BYTES: usize = 4096;
 
 fn usage() {
     io::write_all(

@@ -19,7 +19,9 @@ use Rattle.network.specs.Load.{loadOf}
 use Rattle.network.specs.Calls.{Filled}
 use Rattle.network.proofs.Valid.{net-ok}
 use Rattle.network.proofs.Exchanges.{loaded-length}
-use Rattle.render.specs.Listing.{header, totals, refusedLine, gateRow, rows, setEntries, listingOfNet, listingOf, ListingLength, ListingRoom, mostListingBytes}
+use Rattle.tabletext.specs.Digits.{digits}
+use Rattle.tabletext.proofs.DigitLaws.{digits-few}
+use Rattle.render.specs.Listing.{header, totals, refusedLine, gateRow, rows, setEntries, listingOfNet, listingOf, ListingLength, ListingRoom, mostRowBytes, mostListingBytes}
 use Rattle.render.proofs.Pieces.{length-row, length-totals}
 use Rattle.render.proofs.Shown.{fresh, listing-loaded, listing-refused, into-done}
 
@@ -28,13 +30,13 @@ unfolding refusedLine number
 length-refused r = let n = length-number r 0x0A in omega arith
 
 module _ (N : Net) where
-  length-gate-rows : (g : ℕ) → length (rows N g) ≤ 25 * g
+  length-gate-rows : (g : ℕ) → length (rows N g) ≤ mostRowBytes * g
   length-gate-rows zero = omega arith
   length-gate-rows (suc g) =
       let s = N .inputs + g in
       let n = length-append (rows N g) (gateRow N s) in
       let k = length-gate-rows g in
-      let r = length-row s (cdc N s) (full N s) (openTable N s) (compatibleCount N s) in
+      let r = length-row (digits N) s (cdc N s) (full N s) (openTable N s) (compatibleCount N s) (digits-few N) in
       omega arith
 
   length-net : length (N .gates) ≤ mostGates → length (listingOfNet N) ≤ mostListingBytes

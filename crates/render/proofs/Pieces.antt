@@ -1,25 +1,22 @@
 -- The pieces of the listing: the bytes of each, how long it is, and how they are laid one after the other. Assumes nothing.
-use mathlib.Core.Path.{_≡_, sym, ap, _∙_}
-use mathlib.Core.Bool.{Bool, false}
+use mathlib.Core.Path.{_≡_}
 use mathlib.Core.List.{List, _++_, append-assoc}
-use Prim.Native.Nat.{ℕ, zero, suc, _+_, _*_, _^_, _/_, _%_, _≤_, _<_}
+use Prim.Native.Nat.{ℕ, zero, suc, _+_, _*_, _≤_}
 use native.Mathlib.Numerals.{add-one}
-use native.Mathlib.Nat.{add-zero, div-add-mod'}
 use native.Mathlib.Omega.{arith}
 use lib.ListN.{length, getD, length-append}
 use Rattle.bits.specs.Range.{count}
 use Rattle.bits.specs.Bit.{bit}
-use Rattle.bits.proofs.BitLaws.{bit-low, bit-above}
-use Rattle.bits.proofs.Cuts.{count-ext, count-le}
+use Rattle.bits.proofs.Cuts.{count-le}
 use Rattle.buffer.specs.Laid.{Laid}
 use Rattle.buffer.proofs.Laying.{laid-append, Within, laid-within}
 use Rattle.text.specs.Ascii.{ascii}
-use Rattle.text.specs.Numbers.{hex, decimal}
+use Rattle.text.specs.Numbers.{wordDigits, hex, decimal}
 use Rattle.text.specs.Fields.{number, field}
 use Rattle.text.proofs.Digits.{length-number, length-field}
 use Rattle.network.specs.Bounds.{mostEntries}
 use Rattle.render.specs.declared.Columns.{Columns}
-use Rattle.render.specs.Listing.{header, row, totals, refusedLine}
+use Rattle.render.specs.Listing.{header, row, totals, refusedLine, mostRowBytes}
 use Rattle.render.specs.Text.{entriesIn, rowAt, rowsAt, setIn, textOf}
 
 -- ## Rows
@@ -28,30 +25,30 @@ use Rattle.render.specs.Text.{entriesIn, rowAt, rowsAt, setIn, textOf}
 regroup : (s c f o h e z : List ℕ) → s ++ e ++ c ++ e ++ f ++ e ++ o ++ e ++ h ++ z ≡ (s ++ e) ++ (c ++ e) ++ (f ++ e) ++ (o ++ e) ++ (h ++ z)
 regroup s c f o h e z = simp append-assoc
 
-row-pieces : (s c f o h : ℕ) → row s c f o h ≡ number s 0x20 ++ field c ++ field f ++ field o ++ number h 0x0A
+row-pieces : (d s c f o h : ℕ) → row d s c f o h ≡ number s 0x20 ++ field d c ++ field d f ++ field d o ++ number h 0x0A
 unfolding row number field
-row-pieces s c f o h = regroup (decimal s) (hex c) (hex f) (hex o) (decimal h) (ascii " ") (ascii "\n")
+row-pieces d s c f o h = regroup (decimal s) (hex d c) (hex d f) (hex d o) (decimal h) (ascii " ") (ascii "\n")
 
-pub length-row : (s c f o h : ℕ) → length (row s c f o h) ≤ 25
-length-row s c f o h =
-    rw (row-pieces s c f o h)
-    (simp length-append (omega (arith, length-number s 0x20, length-field c, length-field f, length-field o, length-number h 0x0A)))
+pub length-row : (d s c f o h : ℕ) → d ≤ wordDigits → length (row d s c f o h) ≤ mostRowBytes
+length-row d s c f o h few =
+    rw (row-pieces d s c f o h)
+    (simp length-append (omega (arith, length-number s 0x20, length-field d c, length-field d f, length-field d o, length-number h 0x0A)))
 
-pub row-laid : {b b₁ b₂ b₃ b₄ b₅ : List ℕ} {at r₁ r₂ r₃ r₄ r₅ : ℕ} (s c f o h : ℕ)
-    → Laid b at (number s 0x20) b₁ r₁ → Laid b₁ r₁ (field c) b₂ r₂ → Laid b₂ r₂ (field f) b₃ r₃ → Laid b₃ r₃ (field o) b₄ r₄
-    → Laid b₄ r₄ (number h 0x0A) b₅ r₅ → Laid b at (row s c f o h) b₅ r₅
-row-laid s c f o h p q u v w = rw (row-pieces s c f o h) (laid-append (laid-append (laid-append (laid-append p q) u) v) w)
+pub row-laid : {b b₁ b₂ b₃ b₄ b₅ : List ℕ} {at r₁ r₂ r₃ r₄ r₅ : ℕ} (d s c f o h : ℕ)
+    → Laid b at (number s 0x20) b₁ r₁ → Laid b₁ r₁ (field d c) b₂ r₂ → Laid b₂ r₂ (field d f) b₃ r₃ → Laid b₃ r₃ (field d o) b₄ r₄
+    → Laid b₄ r₄ (number h 0x0A) b₅ r₅ → Laid b at (row d s c f o h) b₅ r₅
+row-laid d s c f o h p q u v w = rw (row-pieces d s c f o h) (laid-append (laid-append (laid-append (laid-append p q) u) v) w)
 
-length-rows : (t : Columns) (g : ℕ) → length (rowsAt t g) ≤ 25 * g
-length-rows t zero = omega arith
-length-rows t (suc g) =
+length-rows : (t : Columns) → t .digits ≤ wordDigits → (g : ℕ) → length (rowsAt t g) ≤ mostRowBytes * g
+length-rows t few zero = omega arith
+length-rows t few (suc g) =
     let n = length-append (rowsAt t g) (rowAt t g) in
-    let k = length-rows t g in
-    let r = length-row (t .n + g) (getD (t .cdc) g 0) (getD (t .full) g 0) (getD (t .opens) g 0) (getD (t .hidden) g 0) in
+    let k = length-rows t few g in
+    let r = length-row (t .digits) (t .n + g) (getD (t .cdc) g 0) (getD (t .full) g 0) (getD (t .opens) g 0) (getD (t .hidden) g 0) few in
     omega arith
 
-pub rows-within : {b b₁ : List ℕ} {at r : ℕ} (t : Columns) (g : ℕ) → Laid b at (rowsAt t g) b₁ r → Within b b₁ at r (25 * g)
-rows-within t g l = laid-within (25 * g) (length-rows t g) l
+pub rows-within : {b b₁ : List ℕ} {at r : ℕ} (t : Columns) → t .digits ≤ wordDigits → (g : ℕ) → Laid b at (rowsAt t g) b₁ r → Within b b₁ at r (mostRowBytes * g)
+rows-within t few g l = laid-within (mostRowBytes * g) (length-rows t few g) l
 
 pub rows-next : {b b₁ b₂ : List ℕ} {at r₁ r₂ : ℕ} (t : Columns) (g : ℕ) → Laid b at (rowsAt t g) b₁ r₁ → Laid b₁ r₁ (rowAt t g) b₂ r₂
     → Laid b at (rowsAt t (g + 1)) b₂ r₂
@@ -62,23 +59,10 @@ rows-done t g e l = rw e at l
 
 -- ## Set entries
 
-count-above : (k c : ℕ) (p : ℕ → Bool) → ((i : ℕ) → k ≤ i → p i ≡ false) → count (k + c) p ≡ count k p
-count-above k zero p f = ap (λ (j : ℕ). count j p) (add-zero k)
-count-above k (suc c) p f =
-    let q : k + suc c ≡ suc (k + c) = omega arith in
-    rw (q, f (k + c) (omega arith), count-above k c p f) (add-zero (count k p))
-
--- the entries of a table are its lowest 16 bits
-pub low-count : (x : ℕ) → count 64 (bit (x % 65536)) ≡ entriesIn x
+-- the ones of a word are the set entries of a table of most entries
+pub entries-are : {r : ℕ} (x : ℕ) → r ≡ count 64 (bit x) → (r ≡ entriesIn x) × (r ≤ mostEntries)
 unfolding entriesIn
-low-count x =
-    let l : x % 65536 < 2 ^ 16 = omega arith in
-    count-above 16 48 (bit (x % 65536)) (λ i h. bit-above (x % 65536) 16 i l h)
-    ∙ count-ext 16 (bit (x % 65536)) (bit x) (λ i h. sym (bit-low (x / 65536) 16 (x % 65536) i h) ∙ ap (λ (y : ℕ). bit y i) (div-add-mod' x 65536))
-
-pub entries-few : (x : ℕ) → entriesIn x ≤ mostEntries
-unfolding entriesIn
-entries-few x = count-le mostEntries (bit x)
+entries-are x e = (e, rw e (count-le mostEntries (bit x)))
 
 pub set-next : (tables : List ℕ) (g : ℕ) → setIn tables (g + 1) ≡ setIn tables g + entriesIn (getD tables g 0)
 unfolding entriesIn

@@ -31,6 +31,8 @@ use Rattle.network.proofs.Exchanges.{loaded-length, loaded-inputs, open-at}
 use Rattle.dontcares.specs.Tabled.{Tabled}
 use Rattle.engine.specs.declared.Counted.{Counted}
 use Rattle.engine.specs.Counted.{countedOf}
+use Rattle.tabletext.specs.Digits.{digits}
+use Rattle.tabletext.proofs.DigitLaws.{digits-few}
 use Rattle.render.specs.declared.Columns.{Columns}
 use Rattle.render.specs.Listing.{rows, setEntries, refusedLine, listingOfNet, listingOf, listingInto}
 use Rattle.render.specs.Text.{rowsAt, textOf, Ready}
@@ -40,6 +42,7 @@ use Rattle.render.specs.Text.{rowsAt, textOf, Ready}
 pub record Shows (N : Net) (t : Columns) : Type 0 where
   pub inputs : t .n ≡ N .inputs
   pub gates : t .m ≡ length (N .gates)
+  pub digits-same : t .digits ≡ digits N
   pub cdc-at : (g : ℕ) → g < t .m → getD (t .cdc) g 0 ≡ cdc N (N .inputs + g)
   pub full-at : (g : ℕ) → g < t .m → getD (t .full) g 0 ≡ full N (N .inputs + g)
   pub open-at : (g : ℕ) → g < t .m → getD (t .opens) g 0 ≡ openTable N (N .inputs + g)
@@ -49,7 +52,7 @@ rows-same : (N : Net) (t : Columns) → Shows N t → (g : ℕ) → g ≤ t .m �
 rows-same N t v zero h = refl
 rows-same N t v (suc g) h =
     let l : g < t .m = omega arith in
-    rw (rows-same N t v g (omega arith), v .inputs, v .cdc-at g l, v .full-at g l, v .open-at g l, v .hidden-at g l)
+    rw (rows-same N t v g (omega arith), v .digits-same, v .inputs, v .cdc-at g l, v .full-at g l, v .open-at g l, v .hidden-at g l)
 
 set-same : (p q : ℕ → ℕ) (m : ℕ) → ((g : ℕ) → g < m → p g ≡ q g) → setEntries p m ≡ setEntries q m
 set-same p q zero f = refl
@@ -73,7 +76,7 @@ unfolding currentNet loadedNet
 current-loaded s e = rw e
 
 module _ (s : Session) (t : Columns) (valid : stateFault s ≡ Done) (same : s .current ≡ s .loaded) (held : s .open_tables ≡ openTables (loadedNet s))
-    (few : s .m ≤ mostGates) (en : t .n ≡ s .n) (em : t .m ≡ s .m)
+    (few : s .m ≤ mostGates) (en : t .n ≡ s .n) (em : t .m ≡ s .m) (ed : t .digits ≡ digits (loadedNet s))
     (k : Tabled (currentNet s) (t .cdc) (t .full) (s .n) 0 (s .m))
     (eo : t .opens ≡ s .open_tables) (eh : t .hidden ≡ countsOf s .counts) where
   pub shown : Shows (loadedNet s) t
@@ -85,6 +88,7 @@ module _ (s : Session) (t : Columns) (valid : stateFault s ≡ Done) (same : s .
       record {
         inputs = en ∙ sym i;
         gates = em ∙ sym m;
+        digits-same = ed;
         cdc-at = λ g h. k .at g (omega arith) (omega arith) .0 ∙ rw (c, i);
         full-at = λ g h. k .at g (omega arith) (omega arith) .1 ∙ rw (c, i);
         open-at = λ g h. ap (λ (l : List ℕ). getD l g 0) (eo ∙ held) ∙ open-at N g (omega arith) (omega arith);
@@ -93,6 +97,7 @@ module _ (s : Session) (t : Columns) (valid : stateFault s ≡ Done) (same : s .
 
 pub shows-ready : (N : Net) (t : Columns) → Shows N t → t .n ≤ mostInputs → t .m ≤ mostGates → Ready t
 shows-ready N t v i m = record {
+  digits = let d = v .digits-same in let few = digits-few N in omega arith;
   inputs = i;
   gates = m;
   few = λ g h.

@@ -1,4 +1,4 @@
--- The listing of a file, byte by byte: 01, 'The twin network'. Assumes nothing.
+-- The listing of a file, byte by byte: 01, 'The twin network', and the digits of request Five of 02. Assumes nothing.
 use mathlib.Core.Path.{_≡_}
 use mathlib.Core.List.{List, [], _++_}
 use Prim.Native.Nat.{ℕ, zero, suc, _+_, _*_, _≤_}
@@ -6,7 +6,7 @@ use lib.ListN.{length}
 use Rattle.bits.specs.Range.{count}
 use Rattle.bits.specs.Bit.{bit}
 use Rattle.text.specs.Ascii.{ascii}
-use Rattle.text.specs.Numbers.{hex, decimal}
+use Rattle.text.specs.Numbers.{wordDigits, hex, decimal}
 use Rattle.network.specs.declared.Session.{Session}
 use Rattle.network.specs.declared.Answer.{Answer}
 use Rattle.network.specs.declared.Answer.the-variants.{Done, Refused}
@@ -18,15 +18,16 @@ use Rattle.network.specs.Flat.{loadedNet}
 use Rattle.network.specs.Refusals.{numberOf}
 use Rattle.network.specs.Load.{loadOf}
 use Rattle.network.specs.Calls.{Filled, roomTest, filled}
+use Rattle.tabletext.specs.Digits.{digits}
 
 -- ## Lines
 
 unfoldable pub header : List ℕ
 header = ascii "gate cdc full open hidden\n"
 
--- signal; three tables; the number of patterns in H
-unfoldable pub row : (signal cdc full opens hidden : ℕ) → List ℕ
-row s c f o h = decimal s ++ ascii " " ++ hex c ++ ascii " " ++ hex f ++ ascii " " ++ hex o ++ ascii " " ++ decimal h ++ ascii "\n"
+-- signal; three tables of so many digits; the number of patterns in H
+unfoldable pub row : (digits signal cdc full opens hidden : ℕ) → List ℕ
+row d s c f o h = decimal s ++ ascii " " ++ hex d c ++ ascii " " ++ hex d f ++ ascii " " ++ hex d o ++ ascii " " ++ decimal h ++ ascii "\n"
 
 -- the set entries of all full tables, then of all open ones
 unfoldable pub totals : ℕ → ℕ → List ℕ
@@ -39,7 +40,7 @@ refusedLine r = ascii "refused " ++ decimal r ++ ascii "\n"
 -- ## The listing
 
 abbrev pub gateRow : Net → ℕ → List ℕ
-gateRow N s = row s (cdc N s) (full N s) (openTable N s) (compatibleCount N s)
+gateRow N s = row (digits N) s (cdc N s) (full N s) (openTable N s) (compatibleCount N s)
 
 -- the rows of the first g gates
 abbrev pub rows : Net → ℕ → List ℕ
@@ -70,9 +71,13 @@ listingInto bytes buffer = filled (roomTest (length (listingOf bytes)) buffer) (
 
 -- ## Its length
 
--- the bytes of the header, of a row for each gate and of the totals, numbers taken with four digits
+-- the bytes of a row, decimal numbers taken with four digits and tables with sixteen
+abbrev pub mostRowBytes : ℕ
+mostRowBytes = 5 + 3 * (wordDigits + 1) + 5
+
+-- of the header, of a row for each gate and of the totals
 abbrev pub mostListingBytes : ℕ
-mostListingBytes = 26 + 25 * mostGates + 16
+mostListingBytes = 26 + mostRowBytes * mostGates + 16
 
 -- no listing is longer
 abbrev pub ListingLength : Type 0

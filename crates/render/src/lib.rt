@@ -9,21 +9,27 @@ ghost use Rattle.network.specs.Compatible.{openTables};
 ghost use Rattle.network.specs.Flat.{loadedNet};
 ghost use Rattle.network.specs.State.{stateFault};
 ghost use Rattle.network.specs.Calls.{countsOf, withLength};
-ghost use Rattle.render.specs.Listing.{header, totals, refusedLine, listingOfNet, listingOf, listingInto, mostListingBytes};
+ghost use Rattle.render.specs.Listing.{header, totals, refusedLine, listingOfNet, listingOf, listingInto, mostRowBytes, mostListingBytes};
 ghost use Rattle.render.specs.Text.{entriesIn, rowAt, rowsAt, setIn, textOf, Ready};
 use network::Answer;
 use network::MOST_GATES;
 use network::Refusal;
 use network::Session;
 use network::WriteAnswer;
+use text::WORD_DIGITS;
 
-// The most bytes of a listing: of the header, of a row for each gate, and of the totals, numbers taken with four digits.
-pub const MOST_LISTING_BYTES: usize = 26 + 25 * MOST_GATES + 16;
+// The most bytes of a row, decimal numbers taken with four digits and tables with sixteen, and of a listing: of the header, of a row
+// for each gate, and of the totals.
+const MOST_ROW_BYTES: usize = 5 + 3 * (WORD_DIGITS + 1) + 5;
 
-// What the listing of a network shows: n inputs, m gates, and of each gate three tables and the number of hidden patterns.
+pub const MOST_LISTING_BYTES: usize = 26 + MOST_ROW_BYTES * MOST_GATES + 16;
+
+// What the listing of a network shows: n inputs, m gates, and of each gate three tables of so many digits and the number of hidden
+// patterns.
 pub struct Columns {
     pub n: u64,
     pub m: usize,
+    pub digits: usize,
     pub cdc: [u64; MOST_GATES],
     pub full: [u64; MOST_GATES],
     pub opens: [u64; MOST_GATES],
@@ -33,7 +39,7 @@ pub struct Columns {
 // Each function that puts text does so from place at on, or from the start, and returns the place behind it.
 
 fn put_row(buf: &mut [u8], at: usize, t: Columns, g: usize) -> usize
-    requires { ⌜ Ready t × (g < t .m) × (at + 25 ≤ length (now buf)) ⌝ }
+    requires { ⌜ Ready t × (g < t .m) × (at + mostRowBytes ≤ length (now buf)) ⌝ }
     ensures { λ r. ⌜ Laid (now (buf .entry)) at (rowAt t g) (now (buf .exit)) r ⌝ }
 {
     let signal = t.n + (g as u64);
@@ -41,15 +47,16 @@ fn put_row(buf: &mut [u8], at: usize, t: Columns, g: usize) -> usize
     let full = t.full[g];
     let opens = t.opens[g];
     let hidden = t.hidden[g] as u64;
+    let digits = t.digits;
     let a = text::put_number(buf, at, signal, b' ');
-    let b = text::put_field(buf, a, cdc);
-    let c = text::put_field(buf, b, full);
-    let d = text::put_field(buf, c, opens);
+    let b = text::put_field(buf, a, cdc, digits);
+    let c = text::put_field(buf, b, full, digits);
+    let d = text::put_field(buf, c, opens, digits);
     text::put_number(buf, d, hidden, b'\n')
 }
 
 fn put_rows(buf: &mut [u8], at: usize, t: Columns) -> usize
-    requires { ⌜ Ready t × (at + 25 * t .m ≤ length (now buf)) ⌝ }
+    requires { ⌜ Ready t × (at + mostRowBytes * t .m ≤ length (now buf)) ⌝ }
     ensures { λ r. ⌜ Laid (now (buf .entry)) at (rowsAt t (t .m)) (now (buf .exit)) r ⌝ }
 {
     let m = t.m;
@@ -66,7 +73,7 @@ fn put_rows(buf: &mut [u8], at: usize, t: Columns) -> usize
 fn entries_in(x: u64) -> u64
     ensures { λ r. ⌜ (r ≡ entriesIn x) × (r ≤ mostEntries) ⌝ }
 {
-    bits::ones(x % 65536) as u64
+    bits::ones(x) as u64
 }
 
 // The set entries of the first m tables.
@@ -124,9 +131,11 @@ fn columns_of(s: Session, hidden: [u16; MOST_GATES]) -> Columns
     let cdc = t.cdc;
     let full = t.full;
     let opens = s.open_tables;
+    let digits = tabletext::digits_of(s);
     Columns {
         n: s.n as u64,
         m: network::place(s.m),
+        digits: digits,
         cdc: cdc,
         full: full,
         opens: opens,

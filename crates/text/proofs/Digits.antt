@@ -1,9 +1,11 @@
 -- The digits of a number, by how many there are, and how far a piece reaches. Assumes nothing.
-use mathlib.Core.Path.{_≡_, refl}
-use mathlib.Core.List.{List, [], _∷_}
-use Prim.Native.Nat.{ℕ, _/_, _%_, _+_, _≤_, _<_}
+use mathlib.Core.Path.{_≡_, refl, ap}
+use mathlib.Core.List.{List, [], _∷_, _++_}
+use Prim.Native.Nat.{ℕ, zero, suc, _+_, _-_, _*_, _/_, _%_, _^_, _≤_, _<_}
+use native.Mathlib.Nat.{not-suc-le-zero, pow-suc}
 use native.Mathlib.Omega.{arith}
 use lib.Dec.{ltb}
+use lib.Pow.{pow-add}
 use lib.ListN.{length, set, length-append}
 use borrow.Author.Tests.{lt-ltb, le-ltb}
 use Rattle.bits.proofs.Ranges.{by-cases}
@@ -30,49 +32,63 @@ module _ (x : ℕ) where
   unfolding decimal
   four a b c d l k j p q r s = rw (p, q, r, s, le-ltb x 10 l, le-ltb x 100 k, le-ltb x 1000 j)
 
-  pub hex-digits : (a b c d : ℕ) → a ≡ digit (x / 4096 % 16) → b ≡ digit (x / 256 % 16) → c ≡ digit (x / 16 % 16) → d ≡ digit (x % 16) → hex x ≡ a ∷ b ∷ c ∷ d ∷ []
-  unfolding hex
-  hex-digits a b c d p q r s = rw (p, q, r, s)
+-- four bits to a hexadecimal digit
+sixteens : (c : ℕ) → 16 ^ c ≡ 2 ^ (4 * c)
+sixteens zero = refl
+sixteens (suc c) =
+    let q : 4 * suc c ≡ 4 * c + 4 = omega arith in
+    rw (q, pow-add 2 (4 * c) 4, ← sixteens c) (pow-suc 16 c)
 
-  -- ## How long they are
+-- the digit that is due where so many are left
+pub hex-next : (left x : ℕ) → 0 < left → hex left x ≡ (digit (x / 2 ^ (4 * (left - 1)) % 16) ∷ []) ++ hex (left - 1) x
+unfolding hex
+hex-next zero x h = absurd (not-suc-le-zero h)
+hex-next (suc c) x h = let q : suc c - 1 ≡ c = omega arith in rw (q, ← sixteens c)
 
-  pub length-decimal : length (decimal x) ≤ 4
-  unfolding decimal
-  length-decimal =
-      by-cases (ltb x 10) (λ a. rw a (omega arith))
-      (λ a. by-cases (ltb x 100) (λ b. rw (a, b) (omega arith))
-      (λ b. by-cases (ltb x 1000) (λ c. rw (a, b, c) (omega arith)) (λ c. rw (a, b, c) (omega arith))))
+pub hex-none : (left x : ℕ) → left ≡ 0 → hex left x ≡ []
+unfolding hex
+hex-none left x e = rw e
 
-  pub length-hex : length (hex x) ≡ 4
-  unfolding hex
-  length-hex = refl
+-- ## How long they are
+
+pub length-decimal : (x : ℕ) → length (decimal x) ≤ 4
+unfolding decimal
+length-decimal x =
+    by-cases (ltb x 10) (λ a. rw a (omega arith))
+    (λ a. by-cases (ltb x 100) (λ b. rw (a, b) (omega arith))
+    (λ b. by-cases (ltb x 1000) (λ c. rw (a, b, c) (omega arith)) (λ c. rw (a, b, c) (omega arith))))
+
+pub length-hex : (c x : ℕ) → length (hex c x) ≡ c
+unfolding hex
+length-hex zero x = refl
+length-hex (suc c) x = ap suc (length-hex c x)
 
 pub length-number : (x after : ℕ) → length (number x after) ≤ 5
 unfolding number
 length-number x after = let n = length-append (decimal x) (after ∷ []) in let k = length-decimal x in omega arith
 
-pub length-field : (x : ℕ) → length (field x) ≡ 5
+pub length-field : (c x : ℕ) → length (field c x) ≡ c + 1
 unfolding field
-length-field x = let n = length-append (hex x) (0x20 ∷ []) in let k = length-hex x in omega arith
+length-field c x = let n = length-append (hex c x) (0x20 ∷ []) in let k = length-hex c x in omega arith
 
 -- ## How far a piece reaches
 
 pub number-within : {b b₁ : List ℕ} {at r : ℕ} (x after : ℕ) → Laid b at (number x after) b₁ r → Within b b₁ at r 5
 number-within x after l = laid-within 5 (length-number x after) l
 
-pub field-within : {b b₁ : List ℕ} {at r : ℕ} (x : ℕ) → Laid b at (field x) b₁ r → Within b b₁ at r 5
-field-within x l = laid-within 5 (let n = length-field x in omega arith) l
+pub field-within : {b b₁ : List ℕ} {at r : ℕ} (c x : ℕ) → Laid b at (field c x) b₁ r → Within b b₁ at r (c + 1)
+field-within c x l = laid-within (c + 1) (let n = length-field c x in omega arith) l
 
 -- ## The byte behind a number
 
--- four digits leave a place for it
-pub place-behind : {b b₁ xs : List ℕ} {at e : ℕ} → length xs ≤ 4 → Laid b at xs b₁ e → at + 5 ≤ length b → e < length b₁
-place-behind h l r = let w = laid-within 4 h l in let p = w .behind in let q = w .long in omega arith
+-- k digits leave a place for it
+pub place-behind : {b b₁ xs : List ℕ} {at e : ℕ} (k : ℕ) → length xs ≤ k → Laid b at xs b₁ e → at + (k + 1) ≤ length b → e < length b₁
+place-behind k h l r = let w = laid-within k h l in let p = w .behind in let q = w .long in omega arith
 
 pub number-laid : {b b₁ : List ℕ} {at e : ℕ} (x after : ℕ) → Laid b at (decimal x) b₁ e → Laid b at (number x after) (set b₁ e after) (e + 1)
 unfolding number
 number-laid {b} {b₁} {at} {e} x after l = laid-append l (stored b₁ e after after refl)
 
-pub field-laid : {b b₁ : List ℕ} {at e : ℕ} (x : ℕ) → Laid b at (hex x) b₁ e → Laid b at (field x) (set b₁ e 0x20) (e + 1)
+pub field-laid : {b b₁ : List ℕ} {at e : ℕ} (c x : ℕ) → Laid b at (hex c x) b₁ e → Laid b at (field c x) (set b₁ e 0x20) (e + 1)
 unfolding field
-field-laid {b} {b₁} {at} {e} x l = laid-append l (stored b₁ e 0x20 0x20 refl)
+field-laid {b} {b₁} {at} {e} c x l = laid-append l (stored b₁ e 0x20 0x20 refl)

@@ -4,7 +4,7 @@ use mathlib.Core.List.{List, [], _∷_}
 use Prim.Native.Nat.{ℕ}
 use lib.Dec.{eqb}
 use Rattle.text.specs.Ascii.{ascii}
-use Rattle.text.specs.Numbers.{hex, decimal}
+use Rattle.text.specs.Numbers.{wordDigits, hex, decimal}
 use Rattle.text.specs.Words.{Text, parts, before, words}
 
 abbrev pub shown : List (List ℕ × List ℕ)
@@ -18,11 +18,14 @@ shown =
     ∷ (decimal 999, ascii "999")
     ∷ (decimal 1000, ascii "1000")
     ∷ (decimal 1024, ascii "1024")
-    -- hexadecimal, in lower case
-    ∷ (hex 0x0123, ascii "0123")
-    ∷ (hex 0x4567, ascii "4567")
-    ∷ (hex 0x89AB, ascii "89ab")
-    ∷ (hex 0xCDEF, ascii "cdef")
+    -- hexadecimal, in lower case, with so many digits
+    ∷ (hex 4 0x0123, ascii "0123")
+    ∷ (hex 4 0x89AB, ascii "89ab")
+    ∷ (hex 4 0xCDEF, ascii "cdef")
+    ∷ (hex wordDigits 0x4567, ascii "0000000000004567")
+    ∷ (hex wordDigits 0xFEDCBA9876543210, ascii "fedcba9876543210")
+    -- the lowest ones
+    ∷ (hex 4 0x12345, ascii "2345")
     -- the codes themselves, and the end of a line
     ∷ (ascii "09 az\n", 0x30 ∷ 0x39 ∷ 0x20 ∷ 0x61 ∷ 0x7A ∷ 0x0A ∷ [])
     ∷ []

@@ -8,6 +8,6 @@ use Rattle.text.specs.Numbers.{hex, decimal}
 unfoldable pub number : (x after : ℕ) → List ℕ
 number x after = decimal x ++ after ∷ []
 
--- a number in hexadecimal and the space behind it
-unfoldable pub field : ℕ → List ℕ
-field x = hex x ++ ascii " "
+-- the c lowest hexadecimal digits of x and the space behind them
+unfoldable pub field : (c x : ℕ) → List ℕ
+field c x = hex c x ++ ascii " "

@@ -3,8 +3,11 @@ ghost use mathlib.Core.Path.{_≡_};
 ghost use Prim.Native.Nat.{_+_, _<_, _≤_};
 ghost use lib.ListN.{length};
 ghost use Rattle.buffer.specs.Laid.{Room, Laid};
-ghost use Rattle.text.specs.Numbers.{digit, hex, decimal};
+ghost use Rattle.text.specs.Numbers.{digit, wordDigits, hex, decimal};
 ghost use Rattle.text.specs.Fields.{number, field};
+
+// How many hexadecimal digits a word of 64 bits has.
+pub const WORD_DIGITS: usize = 16;
 
 fn digit(d: u64) -> u8
     requires { ⌜ d < 16 ⌝ }
@@ -45,18 +48,19 @@ pub fn put_decimal(buf: &mut [u8], at: usize, x: u64) -> usize
     buffer::copy(buf, at, &t)
 }
 
-// Four hexadecimal digits.
-pub fn put_hex(buf: &mut [u8], at: usize, x: u64) -> usize
-    requires { ⌜ Room (now buf) at (hex x) ⌝ }
-    ensures { λ r. ⌜ Laid (now (buf .entry)) at (hex x) (now (buf .exit)) r ⌝ }
+// The c lowest hexadecimal digits of x, the highest first.
+pub fn put_hex(buf: &mut [u8], at: usize, x: u64, c: usize) -> usize
+    requires { ⌜ (c ≤ wordDigits) × Room (now buf) at (hex c x) ⌝ }
+    ensures { λ r. ⌜ Laid (now (buf .entry)) at (hex c x) (now (buf .exit)) r ⌝ }
 {
-    let t = [
-        digit(x / 4096 % 16),
-        digit(x / 256 % 16),
-        digit(x / 16 % 16),
-        digit(x % 16),
-    ];
-    buffer::copy(buf, at, &t)
+    let mut a = at;
+    let mut left = c;
+    while 0 < left {
+        left -= 1;
+        buf[a] = digit((x >> (4 * left)) % 16);
+        a += 1;
+    }
+    a
 }
 
 // A number in decimal, and the byte behind it.
@@ -69,12 +73,12 @@ pub fn put_number(buf: &mut [u8], at: usize, x: u64, after: u8) -> usize
     e + 1
 }
 
-// A number in hexadecimal, and a space.
-pub fn put_field(buf: &mut [u8], at: usize, x: u64) -> usize
-    requires { ⌜ at + 5 ≤ length (now buf) ⌝ }
-    ensures { λ r. ⌜ Laid (now (buf .entry)) at (field x) (now (buf .exit)) r ⌝ }
+// The c lowest hexadecimal digits of x, and a space.
+pub fn put_field(buf: &mut [u8], at: usize, x: u64, c: usize) -> usize
+    requires { ⌜ (c ≤ wordDigits) × (at + (c + 1) ≤ length (now buf)) ⌝ }
+    ensures { λ r. ⌜ Laid (now (buf .entry)) at (field c x) (now (buf .exit)) r ⌝ }
 {
-    let e = put_hex(buf, at, x);
+    let e = put_hex(buf, at, x, c);
     buf[e] = b' ';
     e + 1
 }

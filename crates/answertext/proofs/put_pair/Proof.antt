@@ -1,8 +1,12 @@
 -- `put_pair`: piece after piece. Assumes nothing.
-use Prim.Native.Nat.{ℕ, _-_}
+use Prim.Native.Nat.{ℕ, _-_, _≤_}
+use native.Mathlib.Omega.{arith}
 use lib.ListN.{getD, drop}
 use borrow.Author.Needs.{needs}
+use Rattle.text.specs.Numbers.{wordDigits}
 use Rattle.text.specs.Words.{Text}
+use Rattle.network.specs.Flat.{loadedNet}
+use Rattle.tabletext.proofs.DigitLaws.{digits-few}
 use Rattle.desk.specs.Answer.{pairLine}
 use Rattle.answertext.proofs.Pieces.{Due, due, due-room, due-next, due-done}
 use Rattle.answertext.proofs.Printed.{pairPieces, pair-pieces, pair-entry}
@@ -17,15 +21,18 @@ abbrev Left : tie.After-exchange → Text → ℕ → ℕ → Type 0
 Left c b a k =
     let x = start c .args in
     Due (x .buf .now) (x .at) (pairLine (x .t3) (record { gate = x .name .now; table = x .table })) b a
-    (drop k (pairPieces (x .name .now) (getD (x .t3 .loaded) (x .gate - x .t3 .n) 0) (x .table) (c .exchange .result .answer)))
+    (drop k (pairPieces (x .name .now) (x .digits) (getD (x .t3 .loaded) (x .gate - x .t3 .n) 0) (x .table) (c .exchange .result .answer)))
 
 none : (c : tie.After-exchange) → Left c (start c .args .buf .now) (start c .args .at) 0
 none c =
     let s = start c in
     let x = s .args in
     let e = c .exchange in
-    due (x .buf .now) (x .at) (pairPieces (x .name .now) (getD (x .t3 .loaded) (x .gate - x .t3 .n) 0) (x .table) (e .result .answer))
-    (pair-pieces (x .t3) (x .name .now) (x .gate) (x .table) (e .result) (s .pre .0) (e .ensures)) (s .pre .2)
+    due (x .buf .now) (x .at) (pairPieces (x .name .now) (x .digits) (getD (x .t3 .loaded) (x .gate - x .t3 .n) 0) (x .table) (e .result .answer))
+    (pair-pieces (x .t3) (x .name .now) (x .gate) (x .table) (x .digits) (e .result) (s .pre .0 .0) (s .pre .0 .1) (e .ensures)) (s .pre .1 .1)
+
+few : (c : tie.After-exchange) → start c .args .digits ≤ wordDigits
+few c = let s = start c in let e = s .pre .0 .1 in let f = digits-few (loadedNet (s .args .t3)) in omega arith
 
 abbrev exchange-1 : tie.After-put-around → tie.After-exchange
 exchange-1 c = c .before .before .before .before
@@ -76,7 +83,7 @@ put-around-requires : tie.Need-put-around-requires
 put-around-requires c κs = due-room (none (c .before .before .before))
 
 put-hex-requires : tie.Need-put-hex-requires
-put-hex-requires c κs = due-room (one (c .before .before .before))
+put-hex-requires c κs = let k = c .before .before .before in (few (exchange-1 k), due-room (one k))
 
 slice-aggregate-copy : tie.Need-slice-aggregate-copy
 slice-aggregate-copy c = search needs
@@ -85,7 +92,7 @@ copy-requires : tie.Need-copy-requires
 copy-requires c κs = due-room (two (c .before .before .before .before))
 
 put-hex-requires-2 : tie.Need-put-hex-requires-2
-put-hex-requires-2 c κs = due-room (three (c .before .before .before))
+put-hex-requires-2 c κs = let k = c .before .before .before in (few (exchange-3 k), due-room (three k))
 
 put-open-requires : tie.Need-put-open-requires
 put-open-requires c κs =
@@ -93,7 +100,7 @@ put-open-requires c κs =
     let k = exchange-4 d in
     let s = start k in
     let x = s .args in
-    (pair-entry (x .t3) (x .name .now) (x .gate) (x .table) (k .exchange .result) (s .pre .0) (k .exchange .ensures) (s .pre .1), due-room (four d))
+    (pair-entry (x .t3) (x .name .now) (x .gate) (x .table) (x .digits) (k .exchange .result) (s .pre .0 .0) (s .pre .0 .1) (k .exchange .ensures) (s .pre .1 .0), due-room (four d))
 
 same-length : tie.Need-same-length
 same-length c = search needs

@@ -13,23 +13,26 @@ use Rattle.answertext.proofs.put_pairs.Statement.{statement}
 use Rattle.answertext.proofs.put_pairs.Tie as tie
 
 abbrev Inv-loop : tie.InvT-loop
-Inv-loop buf₀ at s text o n a₀ i₀ buf a i = (i ≤ n) × Pending buf₀ at (pairLines s (pairsGiven text o)) buf a (pairLines s (drop i (pairsGiven text o)))
+Inv-loop buf₀ at s text o n digits a₀ i₀ buf a i = (i ≤ n) × Pending buf₀ at (pairLines s (pairsGiven text o)) buf a (pairLines s (drop i (pairsGiven text o)))
 
 abbrev μ-loop : tie.MeasureT-loop
-μ-loop buf₀ at s text o n a₀ i₀ buf a i = n - i
+μ-loop buf₀ at s text o n digits a₀ i₀ buf a i = n - i
 
 abbrev start : tie.In-loop Inv-loop μ-loop → tie.Start Inv-loop μ-loop
-start c = c .before .before .before .before .before
+start c = c .before .before .before .before .before .before
 
 -- in a turn, the pair's place is one of the order's, and of the arrays'
 turn : (c : tie.In-loop Inv-loop μ-loop) → c .before .loop .i < countIn (start c .args .t5 .case)
-turn c = let e = c .before .before .count .ensures in let t = c .loop-test .taken in omega arith
+turn c = let e = c .before .before .before .count .ensures in let t = c .loop-test .taken in omega arith
 
 placed : (c : tie.In-loop Inv-loop μ-loop) → c .before .loop .i < mostPairs
 placed c = let h = turn c in let f = given-few (start c .args .text .now) (start c .args .t5) (start c .pre .0) in omega arith
 
 count-requires : tie.Need-count-requires Inv-loop μ-loop
 count-requires c κs = search needs
+
+digits-of-requires : tie.Need-digits-of-requires Inv-loop μ-loop
+digits-of-requires c κs = c .before .before .before .pre .1 .gates
 
 loop-holds : tie.Need-loop-holds Inv-loop μ-loop
 loop-holds c = (omega arith, pending-start _ _ _)
@@ -59,9 +62,11 @@ put-pair-requires c κs =
     let i = k .before .loop .i in
     let todo = pairLines (x .s) (drop (i + 1) (pairsGiven text (x .t5))) in
     rw (d .name .ensures) (
-      given-signal text (x .t5) (s .pre .0) i (turn k),
-      given-shown text (x .t5) (s .pre .0) (x .s) i (turn k) (s .pre .1),
-      pending-room (pairLine (x .s) (pairIn text (x .t5) i)) todo (k .before .loop .inv .1) (given-line text (x .t5) (s .pre .0) (x .s) i (turn k)) (s .pre .2),
+      (given-signal text (x .t5) (s .pre .0) i (turn k), k .before .before .digits-of .ensures),
+      (
+        given-shown text (x .t5) (s .pre .0) (x .s) i (turn k) (s .pre .1),
+        pending-room (pairLine (x .s) (pairIn text (x .t5) i)) todo (k .before .loop .inv .1) (given-line text (x .t5) (s .pre .0) (x .s) i (turn k)) (s .pre .2),
+      ),
     )
 
 add-i : tie.Need-add-i Inv-loop μ-loop
@@ -88,7 +93,7 @@ same-length c = c .before .loop .inv .1 .long
 returns : tie.Need-returns Inv-loop μ-loop
 returns c =
     let h = c .before .loop in
-    let k = c .before .before in
+    let k = c .before .before .before in
     let s = k .before .before .before in
     let e = k .count .ensures in
     let n = given-length (s .args .text .now) (s .args .t5) (s .pre .0) in
@@ -101,6 +106,7 @@ put-pairs-spec =
     Inv-loop
     μ-loop
     count-requires
+    digits-of-requires
     loop-holds
     mul-gate
     element-copy-out-gate

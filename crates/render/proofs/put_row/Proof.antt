@@ -1,4 +1,4 @@
--- `put_row`: piece after piece; each has room, as none is longer than 5. Assumes nothing.
+-- `put_row`: piece after piece, each with room. Assumes nothing.
 use native.Mathlib.Omega.{arith}
 use borrow.Author.Needs.{needs}
 use Rattle.text.proofs.Digits.{number-within, field-within}
@@ -48,7 +48,7 @@ put-field-requires-2 : tie.Need-put-field-requires-2
 put-field-requires-2 c κs =
     let k = c .before .before .before in
     let n = number-within _ _ (k .before .before .before .before .put-number .ensures) in
-    let f = field-within _ (k .put-field .ensures) in
+    let f = field-within _ _ (k .put-field .ensures) in
     omega arith
 
 put-field-requires-3 : tie.Need-put-field-requires-3
@@ -56,10 +56,12 @@ put-field-requires-3 c κs =
     let k = c .before .before .before in
     let j = k .before .before .before .before in
     let s = j .before .before .before .before in
-    let room = s .before .before .before .before .before .before .before .pre .2 in
+    let start = s .before .before .before .before .before .before .before in
+    let few = start .pre .0 .digits in
+    let room = start .pre .2 in
     let n = number-within _ _ (s .put-number .ensures) in
-    let f = field-within _ (j .put-field .ensures) in
-    let h = field-within _ (k .put-field2 .ensures) in
+    let f = field-within _ _ (j .put-field .ensures) in
+    let h = field-within _ _ (k .put-field2 .ensures) in
     omega arith
 
 put-number-requires-2 : tie.Need-put-number-requires-2
@@ -70,9 +72,9 @@ put-number-requires-2 c κs =
     let s = i .before .before .before .before in
     let start = s .before .before .before .before .before .before .before in
     let n = number-within _ _ (s .put-number .ensures) in
-    let f = field-within _ (i .put-field .ensures) in
-    let h = field-within _ (j .put-field2 .ensures) in
-    let o = field-within _ (k .put-field3 .ensures) in
+    let f = field-within _ _ (i .put-field .ensures) in
+    let h = field-within _ _ (j .put-field2 .ensures) in
+    let o = field-within _ _ (k .put-field3 .ensures) in
     (start .pre .0 .few (start .args .g) (start .pre .1), omega arith)
 
 same-length : tie.Need-same-length
@@ -85,7 +87,7 @@ returns c =
     let j = k .before .before .before .before in
     let i = j .before .before .before .before in
     let s = i .before .before .before .before in
-    row-laid _ _ _ _ _ (s .put-number .ensures) (i .put-field .ensures) (j .put-field2 .ensures) (k .put-field3 .ensures) (l .put-number2 .ensures)
+    row-laid _ _ _ _ _ _ (s .put-number .ensures) (i .put-field .ensures) (j .put-field2 .ensures) (k .put-field3 .ensures) (l .put-number2 .ensures)
 
 pub put-row-spec : {M : Type 1} → statement M
 put-row-spec =

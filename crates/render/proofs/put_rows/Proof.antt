@@ -22,7 +22,7 @@ put-row-requires : tie.Need-put-row-requires Inv-loop μ-loop
 put-row-requires c κs =
     let start = c .before .before .before .before in
     let h = c .before .before .loop in
-    let w = rows-within (start .args .t) (h .g) (h .inv .1) in
+    let w = rows-within (start .args .t) (start .pre .0 .digits) (h .g) (h .inv .1) in
     (start .pre .0, omega arith, omega arith)
 
 add-g : tie.Need-add-g Inv-loop μ-loop
@@ -39,7 +39,8 @@ loop-again c =
 same-length : tie.Need-same-length Inv-loop μ-loop
 same-length c =
     let h = c .before in
-    rows-within (h .before .before .args .t) (h .loop .g) (h .loop .inv .1) .long
+    let start = h .before .before in
+    rows-within (start .args .t) (start .pre .0 .digits) (h .loop .g) (h .loop .inv .1) .long
 
 returns : tie.Need-returns Inv-loop μ-loop
 returns c =

@@ -32,7 +32,7 @@ put-totals-requires c κs =
     let x = f .set-in .ensures .1 in
     let y = o .set-in2 .ensures .1 in
     let w = header-within (h .put-header .ensures) in
-    let v = rows-within (start .args .t) (start .args .t .m) (r .put-rows .ensures) in
+    let v = rows-within (start .args .t) (start .pre .0 .digits) (start .args .t .m) (r .put-rows .ensures) in
     let g = start .pre .0 .gates in
     let room = start .pre .1 in
     (omega arith, omega arith, omega arith)

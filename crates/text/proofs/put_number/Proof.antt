@@ -16,7 +16,7 @@ slice-write-buf : tie.Need-slice-write-buf
 slice-write-buf c =
     let d = c .before .before in
     let s = d .before .before .before in
-    place-behind (length-decimal (s .args .x)) (d .put-decimal .ensures) (s .pre .1)
+    place-behind 4 (length-decimal (s .args .x)) (d .put-decimal .ensures) (s .pre .1)
 
 add-result : tie.Need-add-result
 add-result c = let h = slice-write-buf c in search needs
