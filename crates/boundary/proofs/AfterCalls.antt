@@ -5,7 +5,7 @@ use mathlib.Core.Path.{_≡_, sym, ap, _∙_}
 use mathlib.Core.Logic.{_↔_}
 use mathlib.Core.Bool.{true}
 use mathlib.Core.List.{List, [], _∷_}
-use Prim.Native.Nat.{ℕ, _≤_}
+use Prim.Native.Nat.{ℕ, _/_, _%_, _^_, _≤_}
 use lib.ListN.{length, getD}
 use Rattle.bits.specs.Lists.{overwritten}
 use Rattle.network.specs.declared.Session.{Session}
@@ -46,7 +46,7 @@ verdict-zero {ws} {s} h gs ts v l =
 
 -- ## The tables of a gate
 
-tables-words : {ws : List ℕ} {t : Session} → Holds ws t → (g : ℕ) (out : List ℕ) → isGate (loadedNet t) g ≡ true → 4 ≤ length out
+tables-words : {ws : List ℕ} {t : Session} → Holds ws t → (g : ℕ) (out : List ℕ) → isGate (loadedNet t) g ≡ true → 5 ≤ length out
     → tablesCall ws g out ≡ record { number = 0; buffer = []; out = overwritten (tableWords (gateTables t g)) out }
 tables-words {ws} {t} h g out w l =
     let is = h .session in
@@ -80,7 +80,7 @@ module _ {ws : List ℕ} {s : Session} (at : Ready ws s) (list : List Asked) whe
   after-calls = record {
     tables = λ g out w l. let C = currentNet (after s rs) in
         tables-words holds g out (ap (λ (N : Net). isGate N g) (after-loaded s (at .fresh) rs) ∙ w) l
-        ∙ ap (λ (o : ℕ). record { number = 0; buffer = []; out = overwritten (sdc C g ∷ cdc C g ∷ full C g ∷ o ∷ []) out }) (after-open s (at .fresh) rs g w);
+        ∙ ap (λ (o : ℕ). record { number = 0; buffer = []; out = overwritten (sdc C g % 2 ^ 64 ∷ sdc C g / 2 ^ 64 ∷ cdc C g ∷ full C g ∷ o ∷ []) out }) (after-open s (at .fresh) rs g w);
     rule4 = λ r v w f l. let h = verdict-zero holds (r .signal ∷ []) (r .table ∷ []) v l in
         let k = rule4-loaded s (at .fresh) rs r w f in
         (λ e. k .0 (h .0 e), λ e. h .1 (k .1 e));

@@ -3,7 +3,7 @@ use mathlib.Core.Path.{_≡_, refl, sym, ap, ap₂, _∙_, subst}
 use mathlib.Core.Logic.{_⊎_, ⊎-elim, _↔_}
 use mathlib.Core.Bool.{true}
 use mathlib.Core.List.{List, [], _∷_}
-use Prim.Native.Nat.{ℕ, _+_, _*_, _^_, _≤_, _<_}
+use Prim.Native.Nat.{ℕ, suc, _+_, _-_, _*_, _/_, _%_, _^_, _≤_, _<_}
 use native.Mathlib.Nat.{min-le-left}
 use native.Mathlib.Omega.{arith}
 use native.Mathlib.Decide.{decLt}
@@ -20,22 +20,23 @@ use Rattle.network.specs.declared.Refusal.{Refusal}
 use Rattle.network.specs.declared.Refusal.the-variants.{BufferTooShort, InvalidState, Harm}
 use Rattle.network.specs.declared.Answer.{Answer}
 use Rattle.network.specs.declared.Answer.the-variants.{Done, Refused}
-use Rattle.network.specs.Bounds.{excludedWords}
-use Rattle.network.specs.Net.{Net, isGate, patterns, Replacement, signals, newTables}
-use Rattle.network.specs.DontCares.{NeverGiven}
+use Rattle.network.specs.Bounds.{mostFanins, excludedWords}
+use Rattle.network.specs.Net.{Net, arity, isGate, gate as gateOf, patterns, Replacement, signals, newTables}
+use Rattle.network.specs.DontCares.{sdc, NeverGiven}
 use Rattle.network.specs.Compatible.{compatibleCount}
 use Rattle.network.specs.Flat.{loadedNet, currentNet}
 use Rattle.network.specs.Refusals.{numberOf, said}
 use Rattle.network.specs.Tests.{member, first}
-use Rattle.network.specs.State.{stateTest}
+use Rattle.network.specs.State.{arityOf, stateTest}
 use Rattle.network.specs.Valid.{Shaped}
 use Rattle.network.specs.Load.{loadDone, loadOf}
 use Rattle.network.specs.Write.{bytesOf}
 use Rattle.network.specs.Calls.{gateTest, harmTest, lengthsTest, pairs, pairsTest, verdictOf, verdictOn, gateTables, filled, roomTest, setWords, patternSetsOf, writeOf}
 use Rattle.network.specs.Lists.{FirstFault}
 use Rattle.network.specs.Sessions.{NoHarm, FirstHarm}
-use Rattle.network.proofs.TestLaws.{alone, clear-e, clear-i}
-use Rattle.network.proofs.Valid.{state-e}
+use Rattle.network.proofs.TestLaws.{alone, clear-e, clear-i, count-e}
+use Rattle.network.proofs.Valid.{valid-e, state-e}
+use Rattle.network.proofs.Exchanges.{net-arity, gate-e}
 use Rattle.network.proofs.Harm.{harm-only, harm-none, harm-at}
 use Rattle.network.proofs.ByTest.{Before, pairs-by}
 use Rattle.network.proofs.Lists.{pairs-back, lengths-fine, signals-back, tables-back, verdict-is, faulted-of}
@@ -43,6 +44,7 @@ use Rattle.render.specs.Listing.{listingOf, listingInto}
 use Rattle.blif.specs.Write.{outgoing, blifText, copiesTest}
 use Rattle.bliftrip.specs.Trip.{Survives}
 use Rattle.engine.specs.Demands.{allInPlace, Changes}
+use Rattle.engine.proofs.SdcWords.{sdc-entries}
 use Rattle.engine.proofs.Demands.{demand2}
 use Rattle.roundtrip.proofs.RoundTrip.{round-trip}
 use Rattle.packed.specs.Packed.{packedOf, excludedStart, sessionWords, part, sessionIn, wordsTest}
@@ -78,12 +80,12 @@ module _ (ws : List ℕ) (v : wordsTest ws ≡ Done) where
   abbrev s : Session
   s = sessionIn ws
 
-  tables-given : (gate : ℕ) (out : List ℕ) → isGate (loadedNet s) gate ≡ true → 4 ≤ length out
+  tables-given : (gate : ℕ) (out : List ℕ) → isGate (loadedNet s) gate ≡ true → 5 ≤ length out
       → Gives (tablesCall ws gate out) [] [] (tableWords (gateTables s gate)) out
   unfolding tablesCall gateTest
   tables-given gate out g o =
       let a : gateTest (loadedNet s) gate ≡ Done = rw g in
-      gives (tableWords (gateTables s gate)) [] [] out (clear-i (wordsTest ws ∷ roomTest 4 out ∷ gateTest (loadedNet s) gate ∷ []) (v, (room-i 4 out o, (a, tt))))
+      gives (tableWords (gateTables s gate)) [] [] out (clear-i (wordsTest ws ∷ roomTest 5 out ∷ gateTest (loadedNet s) gate ∷ []) (v, (room-i 5 out o, (a, tt))))
       (omega arith) o
 
   -- with no test of its own
@@ -300,6 +302,19 @@ tables-shown ws gate out z =
     clash (ap (λ (n : ℕ). member n (9 ∷ 10 ∷ 11 ∷ [])) (sym e) ∙ r .1) refl)
     (demand1-calls .tables ws gate out)
 
+-- the words of an SDC, at the start of what a call gives
+sdc-shown : (ws : List ℕ) (gate e : ℕ) (out : List ℕ) → wordsTest ws ≡ Done → isGate (loadedNet (sessionIn ws)) gate ≡ true → 5 ≤ length out
+    → e < 2 ^ suc (arity (gateOf (currentNet (sessionIn ws)) gate))
+    → bit (getD (tablesCall ws gate out .out) (e / 64) 0) (e % 64) ≡ bit (sdc (currentNet (sessionIn ws)) gate) e
+unfolding currentNet
+sdc-shown ws gate e out v g o h =
+    let s = sessionIn ws in
+    let b = gate-e s gate g in
+    let k = count-e mostFanins (arityOf s (gate - s .n)) (valid-e s (state-e s (words-state ws v)) .gate (gate - s .n) (omega arith) .arity-fine) in
+    let few : arity (gateOf (currentNet s) gate) ≤ 6 = omega (arith, net-arity s (s .current) gate (b .0) (b .1)) in
+    ap (λ (l : Left). bit (getD (l .out) (e / 64) 0) (e % 64)) (tables-given ws v gate out g o .2)
+    ∙ sdc-entries (currentNet s) gate e (drop 2 (overwritten (tableWords (gateTables s gate)) out)) few h
+
 -- ## The counts
 
 module _ (ws out : List ℕ) (v : wordsTest ws ≡ Done) (r : sessionIn ws .m ≤ length out) where
@@ -331,10 +346,14 @@ demand2-calls = record {
       (λ g l. rw (count-shown ws out v r g l) (fit .0 (s .n + g)), fit .1);
   write = write-gives;
   writeBlif = λ ws text out v c o t. write-blif-gives ws text out (v, c, o, t);
+  sdcEntries = sdc-shown;
+  oldFiles = λ file session h. ap (λ (l : Loaded). readCall l session) (demand2 .oldFiles .1 file h);
+  oldWritten = λ ws file out v few o b. let e = demand2 .oldWritten (sessionIn ws) few in
+      subst (λ (bs : List ℕ). length bs ≤ length file → Gives (writeCall ws file out) bs file (length bs ∷ []) out) e (write-gives ws file out v o) b;
   cdcExact = λ ws gate out z. let C = currentNet (sessionIn ws) in
-      subst (λ (o : List ℕ). NeverGiven C gate (getD o 1 0)) (sym (tables-shown ws gate out z)) (demand2 .cdcExact C gate);
+      subst (λ (o : List ℕ). NeverGiven C gate (getD o 2 0)) (sym (tables-shown ws gate out z)) (demand2 .cdcExact C gate);
   cdcFull = λ ws gate t out z. let C = currentNet (sessionIn ws) in
-      subst (λ (o : List ℕ). bit (getD o 1 0) t ≡ true → bit (getD o 2 0) t ≡ true) (sym (tables-shown ws gate out z)) (demand2 .cdcFull C gate t);
+      subst (λ (o : List ℕ). bit (getD o 2 0) t ≡ true → bit (getD o 3 0) t ≡ true) (sym (tables-shown ws gate out z)) (demand2 .cdcFull C gate t);
   harmful = harmful-is;
   shown = λ ws rs out x i j o. shown-is ws rs out j o x i;
   harmless = harmless-is;

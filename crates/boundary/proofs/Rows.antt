@@ -10,8 +10,10 @@ use Rattle.bits.specs.Lists.{overwritten}
 use Rattle.buffer.specs.Laid.{Laid}
 use Rattle.buffer.proofs.Laying.{laid-append, laid-length, laid-start}
 use Rattle.network.specs.declared.Session.{Session}
+use Rattle.network.specs.declared.Sdc.{Sdc}
 use Rattle.network.specs.DontCares.{sdc}
 use Rattle.network.specs.Flat.{currentNet}
+use Rattle.network.specs.Calls.{sdcWords}
 use Rattle.dontcares.specs.Tabled.{Tabled}
 use Rattle.boundary.specs.Boundary.{allTableWords, tablesRoom}
 
@@ -19,8 +21,8 @@ module _ (s : Session) (g : ℕ) {b b₁ : List ℕ} (l : Laid b 0 (allTableWord
   pub row-room : g < s .m → tablesRoom * s .m ≤ length b → tablesRoom * g + tablesRoom ≤ length b₁
   row-room h r = let n = laid-length l in omega arith
 
-  pub row-next : {cdcs fulls b₂ : List ℕ} {d : ℕ} → Tabled (currentNet s) cdcs fulls (s .n) 0 (s .m) → g < s .m → d ≡ sdc (currentNet s) (s .n + g)
-      → b₂ ≡ sets b₁ (tablesRoom * g) (d ∷ getD cdcs g 0 ∷ getD fulls g 0 ∷ getD (s .open_tables) g 0 ∷ [])
+  pub row-next : {cdcs fulls b₂ : List ℕ} {d : Sdc} → Tabled (currentNet s) cdcs fulls (s .n) 0 (s .m) → g < s .m → d ≡ sdcWords (sdc (currentNet s) (s .n + g))
+      → b₂ ≡ sets b₁ (tablesRoom * g) (d .low ∷ d .high ∷ getD cdcs g 0 ∷ getD fulls g 0 ∷ getD (s .open_tables) g 0 ∷ [])
       → Laid b 0 (allTableWords s (g + 1)) b₂ (tablesRoom * (g + 1))
   row-next t h e q =
       let p : s .n + g - s .n ≡ g = omega arith in

@@ -3,7 +3,7 @@ use mathlib.Core.Path.{_≡_}
 use mathlib.Core.Logic.{_↔_}
 use mathlib.Core.Bool.{Bool, true, false}
 use mathlib.Core.List.{List, [], _∷_}
-use Prim.Native.Nat.{ℕ, _<_, _≤_}
+use Prim.Native.Nat.{ℕ, _/_, _%_, _^_, _<_, _≤_}
 use lib.ListN.{length}
 use Rattle.bits.specs.Lists.{overwritten}
 use Rattle.bits.specs.Bit.{bit}
@@ -28,10 +28,10 @@ AcceptableCalls ws named (r ∷ rs) =
 
 pub record AfterCalls (ws : List ℕ) (s : Session) (list : List Asked) : Type 0 where
   -- the tables are 01's: SDC, CDC and full table of the current network, the open table of the loaded one
-  pub tables : (g : ℕ) (out : List ℕ) → isGate (loadedNet s) g ≡ true → 4 ≤ length out
+  pub tables : (g : ℕ) (out : List ℕ) → isGate (loadedNet s) g ≡ true → 5 ≤ length out
       → let C = currentNet (after s (roomy list)) in
       tablesCall (wordsAfter ws list) g out
-      ≡ record { number = 0; buffer = []; out = overwritten (sdc C g ∷ cdc C g ∷ full C g ∷ openTable (loadedNet s) g ∷ []) out }
+      ≡ record { number = 0; buffer = []; out = overwritten (sdc C g % 2 ^ 64 ∷ sdc C g / 2 ^ 64 ∷ cdc C g ∷ full C g ∷ openTable (loadedNet s) g ∷ []) out }
   -- rule 4: a lone replacement is found harmless exactly when it alters, of the loaded table, only entries of the full table
   pub rule4 : (r : Replacement) (v : List ℕ) → isGate (loadedNet s) (r .signal) ≡ true → fits (loadedNet s) r ≡ true → 2 ≤ length v
       → (verdictCallOn (wordsAfter ws list) (r ∷ []) v .number ≡ 0)

@@ -84,13 +84,13 @@ onSession work session buffer out =
     let w = work (sessionIn session) in
     left (first (wordsTest session ∷ roomTest (w .room) out ∷ w .tests)) (w .given) (w .new) buffer out
 
--- SDC, CDC, full and open table of a gate
+-- the two words of the SDC, CDC, full and open table of a gate
 abbrev pub tableWords : Tables → List ℕ
-tableWords t = t .sdc ∷ t .cdc ∷ t .full ∷ t .open_table ∷ []
+tableWords t = t .sdc .low ∷ t .sdc .high ∷ t .cdc ∷ t .full ∷ t .open_table ∷ []
 
 -- how many words these are
 abbrev pub tablesRoom : ℕ
-tablesRoom = 4
+tablesRoom = 5
 
 abbrev pub tablesWork : ℕ → Session → Work
 tablesWork gate s = record { room = tablesRoom; tests = gateTest (loadedNet s) gate ∷ []; given = tableWords (gateTables s gate); new = [] }

@@ -50,10 +50,10 @@ cases =
     -- the layout of a session's words, and the most bytes of a listing
     (arityStart ∷ faninsStart ∷ outputsStart ∷ excludedStart ∷ [], 3 ∷ 43 ∷ 283 ∷ 291 ∷ [])
     ∷ (loadedStart ∷ currentStart ∷ openStart ∷ sessionWords ∷ [], 307 ∷ 347 ∷ 387 ∷ 427 ∷ [])
-    ∷ (byteWords ∷ mostListingBytes ∷ [], 291 ∷ 1042 ∷ [])
+    ∷ (byteWords ∷ mostListingBytes ∷ [], 291 ∷ 2482 ∷ [])
     -- the twin network's questions
-    ∷ (given (tablesCall words 1 (replicate 5 7)), 0 ∷ 6 ∷ 0 ∷ 2 ∷ 2 ∷ 7 ∷ [])
-    ∷ (given (allTablesCall words (replicate 13 7)), 0 ∷ 6 ∷ 0 ∷ 2 ∷ 2 ∷ 6 ∷ 0 ∷ 2 ∷ 0 ∷ 0x1E ∷ 6 ∷ 6 ∷ 2 ∷ 7 ∷ [])
+    ∷ (given (tablesCall words 1 (replicate 6 7)), 0 ∷ 6 ∷ 0 ∷ 0 ∷ 2 ∷ 2 ∷ 7 ∷ [])
+    ∷ (given (allTablesCall words (replicate 16 7)), 0 ∷ 6 ∷ 0 ∷ 0 ∷ 2 ∷ 2 ∷ 6 ∷ 0 ∷ 0 ∷ 2 ∷ 0 ∷ 0x1E ∷ 0 ∷ 6 ∷ 6 ∷ 2 ∷ 7 ∷ [])
     ∷ (laid (patternSetsCall words (replicate 7 7)), 0 ∷ 2 ∷ 2 ∷ 2 ∷ 0 ∷ 0 ∷ 0 ∷ 7 ∷ [])
     ∷ (given (hiddenCall words (replicate 4 7)), 0 ∷ 1 ∷ 0 ∷ 0 ∷ 7 ∷ [])
     ∷ (laid (exchangeCall words (cleared 1) (7 ∷ [])), 0 ∷ changed)
@@ -66,7 +66,7 @@ cases =
     ∷ (given (writeCall words (replicate 28 7) (7 ∷ [])), 0 ∷ 27 ∷ [])
     ∷ (laid (writeCall words (replicate 28 7) (7 ∷ [])), 0 ∷ twinBytes ++ 7 ∷ [])
     -- request Two: CDC, full and open table are three sets where pattern 0 never comes
-    ∷ (given (allTablesCall (packedOf zeroNeverSession) (replicate 9 7)), 0 ∷ 0x78 ∷ 1 ∷ 5 ∷ 5 ∷ 0x78 ∷ 2 ∷ 2 ∷ 0 ∷ 7 ∷ [])
+    ∷ (given (allTablesCall (packedOf zeroNeverSession) (replicate 11 7)), 0 ∷ 0x78 ∷ 0 ∷ 1 ∷ 5 ∷ 5 ∷ 0x78 ∷ 0 ∷ 2 ∷ 2 ∷ 0 ∷ 7 ∷ [])
     -- a loaded file, and the line of a refused one
     ∷ (laid (loadCall twinBytes (replicate (sessionWords + 1) 9)), 0 ∷ words)
     ∷ (given (listingCall (take 26 twinBytes) (replicate 11 7) (7 ∷ 7 ∷ [])), 0 ∷ 10 ∷ 7 ∷ [])
@@ -79,7 +79,9 @@ cases =
     -- lists of unequal length, behind the room; a gate named a second time
     ∷ (given (verdictCall words (0 ∷ []) [] (7 ∷ 7 ∷ [])), 15 ∷ 7 ∷ 7 ∷ [])
     ∷ (given (verdictCall words (1 ∷ 1 ∷ []) (0 ∷ 4 ∷ []) (7 ∷ 7 ∷ [])), 16 ∷ 7 ∷ 7 ∷ [])
-    ∷ (given (tablesCall words 4 (replicate 4 7)), 11 ∷ 7 ∷ 7 ∷ 7 ∷ 7 ∷ [])
+    ∷ (given (tablesCall words 4 (replicate 5 7)), 11 ∷ 7 ∷ 7 ∷ 7 ∷ 7 ∷ 7 ∷ [])
+    -- four words are too few, whatever the gate has
+    ∷ (given (tablesCall words 1 (replicate 4 7)), 9 ∷ 7 ∷ 7 ∷ 7 ∷ 7 ∷ [])
     -- the file's refusals come before the session's room
     ∷ (laid (loadCall (take 26 twinBytes) (7 ∷ [])), 1 ∷ 7 ∷ [])
     ∷ (laid (loadCall twinBytes (7 ∷ [])), 9 ∷ 7 ∷ [])

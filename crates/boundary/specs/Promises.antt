@@ -4,7 +4,7 @@ use mathlib.Core.Path.{_≡_}
 use mathlib.Core.Logic.{_⊎_, _↔_, _≢_}
 use mathlib.Core.Bool.{true, false, cond}
 use mathlib.Core.List.{List, [], _∷_, _++_, map}
-use Prim.Native.Nat.{ℕ, _+_, _*_, _^_, _<_, _≤_}
+use Prim.Native.Nat.{ℕ, suc, _+_, _*_, _/_, _%_, _^_, _<_, _≤_}
 use lib.Dec.{ltb}
 use lib.ListN.{length, getD, take, drop}
 use Rattle.bits.specs.Range.{places}
@@ -15,24 +15,26 @@ use Rattle.network.specs.declared.Loaded.{Loaded}
 use Rattle.network.specs.declared.Refusal.{Refusal}
 use Rattle.network.specs.declared.Answer.{Answer}
 use Rattle.network.specs.declared.Answer.the-variants.{Done}
-use Rattle.network.specs.Net.{Net, isGate, patterns, excludedFor, output, Replacement}
-use Rattle.network.specs.DontCares.{NeverGiven, full}
+use Rattle.network.specs.Net.{Net, arity, isGate, gate as gateOf, patterns, excludedFor, output, Replacement}
+use Rattle.network.specs.DontCares.{sdc, NeverGiven, full}
 use Rattle.network.specs.Compatible.{compatibleCount, compatibleTotal}
 use Rattle.network.specs.Flat.{loadedNet, currentNet}
 use Rattle.network.specs.Refusals.{numberOf, said}
 use Rattle.network.specs.Tests.{member, first}
+use Rattle.network.specs.State.{arityOf}
 use Rattle.network.specs.Load.{loadOf, loadDone}
 use Rattle.network.specs.Write.{bytesOf}
 use Rattle.network.specs.Calls.{fits, pairs, gateTables, stored, roomTest, setWords}
 use Rattle.network.specs.Lists.{Sound, FirstFault}
 use Rattle.network.specs.Sessions.{after, answerBy, NoHarm, FirstHarm, Demand3}
+use Rattle.roundtrip.specs.OldFile.{oldLoadOf, oldBytesOf}
 use Rattle.blif.specs.Read.{readBlifOf}
 use Rattle.blif.specs.Write.{outgoing, blifText, copiesTest}
 use Rattle.bliftrip.specs.Trip.{Survives}
 use Rattle.engine.specs.Demands.{allInPlace, Changes}
 use Rattle.render.specs.Listing.{listingOf}
 use Rattle.packed.specs.Packed.{packedOf, sessionWords, sessionIn, wordsTest}
-use Rattle.boundary.specs.Boundary.{Left, tableWords, allTableWords, loadCall, readBlifCall, listingCall, tablesCall, allTablesCall, patternSetsCall, hiddenCall, verdictCall, verdictCallOn, exchangeCall, writeCall, writeBlifCall}
+use Rattle.boundary.specs.Boundary.{Left, tableWords, allTableWords, readCall, loadCall, readBlifCall, listingCall, tablesCall, allTablesCall, patternSetsCall, hiddenCall, verdictCall, verdictCallOn, exchangeCall, writeCall, writeBlifCall}
 
 -- ## Demand 1: for every file, buffer, table and session state, a call ends in one of the listed outcomes, or in a numbered refusal
 -- that changes neither state nor lent buffer
@@ -103,9 +105,9 @@ pub record Demand2Calls : Type 0 where
       → Gives (readBlifCall text session) (packedOf (readBlifOf text .session)) session [] []
   pub listing : (file text out : List ℕ) → 1 ≤ length out → length (listingOf file) ≤ length text
       → Gives (listingCall file text out) (listingOf file) text (length (listingOf file) ∷ []) out
-  pub tables : (ws : List ℕ) (gate : ℕ) (out : List ℕ) → wordsTest ws ≡ Done → isGate (loadedNet (sessionIn ws)) gate ≡ true → 4 ≤ length out
+  pub tables : (ws : List ℕ) (gate : ℕ) (out : List ℕ) → wordsTest ws ≡ Done → isGate (loadedNet (sessionIn ws)) gate ≡ true → 5 ≤ length out
       → Gives (tablesCall ws gate out) [] [] (tableWords (gateTables (sessionIn ws) gate)) out
-  pub allTables : (ws out : List ℕ) → wordsTest ws ≡ Done → 4 * sessionIn ws .m ≤ length out
+  pub allTables : (ws out : List ℕ) → wordsTest ws ≡ Done → 5 * sessionIn ws .m ≤ length out
       → Gives (allTablesCall ws out) [] [] (allTableWords (sessionIn ws) (sessionIn ws .m)) out
   pub patternSets : (ws words : List ℕ) → wordsTest ws ≡ Done → length (setWords (sessionIn ws) (sessionIn ws .m)) ≤ length words
       → Gives (patternSetsCall ws words) (setWords (sessionIn ws) (sessionIn ws .m)) words [] []
@@ -118,12 +120,16 @@ pub record Demand2Calls : Type 0 where
       → Gives (writeCall ws file out) (bytesOf (sessionIn ws)) file (length (bytesOf (sessionIn ws)) ∷ []) out
   pub writeBlif : (ws text out : List ℕ) → wordsTest ws ≡ Done → copiesTest (sessionIn ws) ≡ Done → 1 ≤ length out → length (blifText (sessionIn ws)) ≤ length text
       → Gives (writeBlifCall ws text out) (blifText (sessionIn ws)) text (length (blifText (sessionIn ws)) ∷ []) out
+  -- request Five, of the words that a call gave: entry e of the SDC is bit e % 64 of word e / 64
+  pub sdcEntries : (ws : List ℕ) (gate e : ℕ) (out : List ℕ) → wordsTest ws ≡ Done → isGate (loadedNet (sessionIn ws)) gate ≡ true → 5 ≤ length out
+      → e < 2 ^ suc (arity (gateOf (currentNet (sessionIn ws)) gate))
+      → bit (getD (tablesCall ws gate out .out) (e / 64) 0) (e % 64) ≡ bit (sdc (currentNet (sessionIn ws)) gate) e
   -- request Two, of the words that a call gave: an entry is in the CDC exactly when no pattern outside E gives it
   pub cdcExact : (ws : List ℕ) (gate : ℕ) (out : List ℕ) → let l = tablesCall ws gate out in
-      l .number ≡ 0 → NeverGiven (currentNet (sessionIn ws)) gate (getD (l .out) 1 0)
+      l .number ≡ 0 → NeverGiven (currentNet (sessionIn ws)) gate (getD (l .out) 2 0)
   -- and each of these is in the full table
   pub cdcFull : (ws : List ℕ) (gate t : ℕ) (out : List ℕ) → let l = tablesCall ws gate out in
-      l .number ≡ 0 → bit (getD (l .out) 1 0) t ≡ true → bit (getD (l .out) 2 0) t ≡ true
+      l .number ≡ 0 → bit (getD (l .out) 2 0) t ≡ true → bit (getD (l .out) 3 0) t ≡ true
   -- harm is found exactly when some pattern that is not excluded changes an output with all of the list in place
   pub harmful : (ws : List ℕ) (rs : List Replacement) (out : List ℕ) → Asks ws rs → 2 ≤ length out
       → (verdictCallOn ws rs out .number ≡ 14) ↔ ((x : ℕ) × (i : ℕ) × Changes (sessionIn ws) rs x i)
@@ -148,6 +154,12 @@ pub record Demand2Calls : Type 0 where
       → let w = writeCall ws file out in
       let l = loadCall (take (getD (w .out) 0 0) (w .buffer)) session in
       (l .number ≡ 0) × (loadedNet (sessionIn (l .buffer)) ≡ currentNet (sessionIn ws)) × (currentNet (sessionIn (l .buffer)) ≡ currentNet (sessionIn ws))
+  -- request Five: a file that the old reader answers with anything but 2 gets that answer, and the words of the same session
+  pub oldFiles : (file session : List ℕ) → (said (oldLoadOf file .answer) ≡ 2 ∷ [] → ⊥) → loadCall file session ≡ readCall (oldLoadOf file) session
+  -- a network of gates with up to four fan-ins is written with the bytes that the old writer gave
+  pub oldWritten : (ws file out : List ℕ) → let s = sessionIn ws in
+      wordsTest ws ≡ Done → ((g : ℕ) → g < s .m → arityOf s g ≤ 4) → 1 ≤ length out → length (oldBytesOf s) ≤ length file
+      → Gives (writeCall ws file out) (oldBytesOf s) file (length (oldBytesOf s) ∷ []) out
   -- request Four: as BLIF text it is the network that went out, which has every gate and the value of every output; and the same text once more
   pub blifTrip : (ws text out session : List ℕ) → writeBlifCall ws text out .number ≡ 0 → sessionWords ≤ length session
       → let w = writeBlifCall ws text out in

@@ -75,8 +75,8 @@ pub fn put_read(l: Loaded, session: &mut [u64]) -> u64
     0
 }
 
-// The words of a gate's tables: SDC, CDC, full and open.
-pub const TABLES_ROOM: usize = 4;
+// The words of a gate's tables: SDC, which takes two, CDC, full and open.
+pub const TABLES_ROOM: usize = 5;
 
 // The tables of each gate of a session, gate after gate.
 pub fn put_tables(s: Session, out: &mut [u64])
@@ -90,7 +90,8 @@ pub fn put_tables(s: Session, out: &mut [u64])
     let full = t.full;
     let mut g: usize = 0;
     while g < m {
-        let row = [dontcares::sdc(s, g), cdc[g], full[g], opens[g]];
+        let d = dontcares::sdc(s, g);
+        let row = [d.low, d.high, cdc[g], full[g], opens[g]];
         buffer::lay_words(out, TABLES_ROOM * g, &row);
         g += 1;
     }

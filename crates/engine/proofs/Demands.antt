@@ -35,6 +35,7 @@ use Rattle.network.proofs.Cdc.{cdc-exact, cdc-full, cdc-plain}
 use Rattle.network.proofs.CountLaws.{counts-at, counts-fit}
 use Rattle.network.proofs.Inside.{inside-of}
 use Rattle.roundtrip.proofs.RoundTrip.{round-trip}
+use Rattle.roundtrip.proofs.Kept.{old-record, old-files, old-bytes, old-written}
 use Rattle.blif.specs.Read.{readBlif, readBlifOf}
 use Rattle.blif.specs.Write.{blifText, copiesTest, writeBlifOf}
 use Rattle.bliftrip.proofs.Trip.{blif-trip}
@@ -44,6 +45,7 @@ use Rattle.bliftrip.proofs.Gives.{text-fresh, text-shaped}
 use Rattle.bliftrip.proofs.SameWords.{blif-words, blif-file, blif-fresh}
 use Rattle.bliftrip.proofs.Ends.{read-by, copies-by}
 use Rattle.engine.specs.Demands.{Ends, Demand1, allInPlace, Changes, Judged, Reached, Demand2, Demand3}
+use Rattle.engine.proofs.SdcWords.{sdc-entries, sdc-one-word}
 use Rattle.engine.proofs.Outcomes.{file, Among, ends, tests-end, read-among}
 
 -- ## Calls that fill a buffer with new words or bytes
@@ -147,6 +149,8 @@ pub demand2 : Demand2
 unfolding patternSetsOf writeOf writtenOf
 demand2 = record {
   tables = tables-are;
+  sdcEntries = λ N g e. sdc-entries N g e [];
+  sdcOneWord = sdc-one-word;
   cdcExact = cdc-exact;
   cdcFull = cdc-full;
   cdcPlain = cdc-plain;
@@ -166,6 +170,10 @@ demand2 = record {
   written = λ s buffer v l. ap (withLength (length (bytesOf s))) (fills-done s (bytesOf s) buffer v l);
   roundTrip = λ s shape v. let w = round-trip s shape (state-e s v) .1 in
       (w .session, w .reads, w .loaded, w .current);
+  oldRecord = old-record;
+  oldFiles = old-files;
+  oldBytes = old-bytes;
+  oldWritten = old-written;
   reached = λ bytes s rs b loads. after-reached s (loaded-fresh bytes s loads) rs (loaded-shaped bytes s b loads);
   rule4 = rule4-of;
   inside = inside-of;

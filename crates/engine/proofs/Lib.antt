@@ -1,3 +1,4 @@
 pub mod ByAnswer
+pub mod SdcWords
 pub mod Outcomes
 pub mod Demands

@@ -14,9 +14,9 @@ use Rattle.network.specs.declared.Refusal.{Refusal}
 use Rattle.network.specs.declared.Refusal.the-variants.{Truncated, UnexpectedMark, OutOfBounds, FaninNotEarlier, FaninRepeated, BitPastEnd, NotASignal, TrailingBytes}
 use Rattle.network.specs.declared.Answer.{Answer}
 use Rattle.network.specs.declared.Answer.the-variants.{Done, Refused}
-use Rattle.network.specs.Bounds.{mostGates, mostOutputs, mostFanins, excludedWords}
-use Rattle.network.specs.Tests.{refuseIf, first, lengthTest, mark, markTest, countTest, member, faninTest, faninsTest, widthTest, excludedTest, outputTest}
-use Rattle.network.specs.Load.{started, onward, outputTests, outputRecord, withOutput, readOutputs, faninsIn, afterFanins, tableIn, gateTests, gateRecord, withGate, readGates, setBytes, excludedIn, withExcluded, isExcluded, excludedTests, excludedRecord, readBody, headerTests, headerRecord, readOf}
+use Rattle.network.specs.Bounds.{mostGates, mostOutputs, excludedWords}
+use Rattle.network.specs.Tests.{refuseIf, first, lengthTest, mark, markTest, rangeTest, member, faninTest, faninsTest, widthTest, excludedTest, outputTest}
+use Rattle.network.specs.Load.{started, onward, outputTests, outputRecord, withOutput, readOutputs, faninsIn, afterFanins, formOf, tableIn, gateTests, gateRecord, withGate, readGates, setBytes, excludedIn, withExcluded, isExcluded, excludedTests, excludedRecord, readBody, headerTests, headerRecord, readOf}
 use Rattle.network.proofs.ByTest.{if-by, or-by, Each, first-by}
 use Rattle.engine.specs.Demands.{Numbered, Ends}
 
@@ -64,8 +64,8 @@ mark-among due rest = go (ltb (length rest) 2)
     go true = refl
     go false = if-among file (not (eqb (mark rest) due)) UnexpectedMark refl
 
-count-among : (most x : ℕ) → Among file (countTest most x)
-count-among most x = if-among file (not (leb 1 x && leb x most)) OutOfBounds refl
+range-among : (least most x : ℕ) → Among file (rangeTest least most x)
+range-among least most x = if-among file (not (leb least x && leb x most)) OutOfBounds refl
 
 fanins-among : (limit : ℕ) (fs : List ℕ) → Among file (faninsTest limit fs)
 unfolding faninsTest faninTest
@@ -108,15 +108,16 @@ unfolding readGates gateRecord
 gates-among zero g t rest = outputs-among (t .p) 0 t rest
 gates-among (suc c) g t rest =
     let k = getD rest 2 0 in
+    let f = formOf rest in
     onward-among (gateRecord (t .n + g) rest) _
-    (first-among file (gateTests (t .n + g) rest) (
-      mark-among 0x4E47 rest,
+    (first-among file (gateTests f (t .n + g) rest) (
+      mark-among (f .opening) rest,
       (
         length-among 3 rest,
-        (count-among mostFanins k, (length-among (k + 2) (drop 3 rest), (fanins-among (t .n + g) (faninsIn rest), (width-among (2 ^ k) (tableIn rest), tt)))),
+        (range-among (f .least) (f .most) k, (length-among (k + f .bytes) (drop 3 rest), (fanins-among (t .n + g) (faninsIn rest), (width-among (2 ^ k) (tableIn rest), tt)))),
       ),
     ))
-    (gates-among c (g + 1) (withGate t g k (faninsIn rest) (tableIn rest)) (drop 2 (afterFanins rest)))
+    (gates-among c (g + 1) (withGate t g k (faninsIn rest) (tableIn rest)) (drop (f .bytes) (afterFanins rest)))
 
 body-among : (t : Session) (rest : List ℕ) → Among file (readBody t rest .answer)
 unfolding readBody excludedRecord
@@ -139,5 +140,5 @@ read-among bytes =
     let m = getD bytes 3 0 in
     let p = getD bytes 4 0 in
     onward-among (headerRecord bytes) _
-    (first-among file (headerTests bytes) (mark-among 0x4E49 bytes, (length-among 5 bytes, (count-among mostInputs n, (count-among mostGates m, (count-among mostOutputs p, tt))))))
+    (first-among file (headerTests bytes) (mark-among 0x4E49 bytes, (length-among 5 bytes, (range-among 1 mostInputs n, (range-among 1 mostGates m, (range-among 1 mostOutputs p, tt))))))
     (body-among (started n m p) (drop 5 bytes))

@@ -5,7 +5,7 @@ use mathlib.Core.Path.{_≡_}
 use mathlib.Core.Logic.{_⊎_, _↔_}
 use mathlib.Core.Bool.{true, false, not}
 use mathlib.Core.List.{List, [], _∷_}
-use Prim.Native.Nat.{ℕ, _+_, _-_, _<_, _≤_}
+use Prim.Native.Nat.{ℕ, suc, _+_, _-_, _/_, _%_, _^_, _<_, _≤_}
 use lib.Dec.{eqb}
 use lib.ListN.{length, getD}
 use Rattle.bits.specs.Range.{any}
@@ -16,7 +16,7 @@ use Rattle.network.specs.declared.Refusal.{Refusal}
 use Rattle.network.specs.declared.Answer.the-variants.{Done, Refused}
 use Rattle.network.specs.declared.TablesAnswer.the-variants as tables
 use Rattle.network.specs.declared.WriteAnswer.the-variants as wrote
-use Rattle.network.specs.Net.{Net, isGate, entries, patterns, excluded, entryOf, Replacement, replaced}
+use Rattle.network.specs.Net.{Net, arity, isGate, gate, entries, patterns, excluded, entryOf, Replacement, replaced}
 use Rattle.network.specs.DontCares.{sdc, cdc, NeverGiven, full, harms}
 use Rattle.network.specs.Compatible.{compatibleCount, compatibleTotal, openTable}
 use Rattle.network.specs.Flat.{loadedNet, currentNet}
@@ -26,10 +26,11 @@ use Rattle.network.specs.Tests.{member}
 use Rattle.network.specs.State.{stateTest}
 use Rattle.network.specs.Load.{loadDone, loadRefused, readOf, opened, loadOf}
 use Rattle.network.specs.Write.{bytesOf}
-use Rattle.network.specs.Calls.{stored, exchangeOf, verdictOf, verdictOn, gateTables, tablesOf, setWords, patternSetsOf, countsOf, countsFor, writtenOf}
+use Rattle.network.specs.Calls.{stored, exchangeOf, verdictOf, verdictOn, sdcWords, gateTables, tablesOf, setWords, patternSetsOf, countsOf, countsFor, writtenOf}
 use Rattle.network.specs.Lists.{Sound, PairExactOf, JudgedOf, FaultedOf, FewOf, ListedOf, UnequalOf, LoneOf}
 use Rattle.network.specs.Sessions.{after, Demand3Of, NoHarm, FirstHarm, Rule4Of, InsideOf, TogetherOf}
 use Rattle.network.specs.Sessions as sessions
+use Rattle.roundtrip.specs.Kept.{OldRecord, OldFiles, OldBytes, OldWritten}
 use Rattle.blif.specs.Read.{readBlif, readBlifOf}
 use Rattle.blif.specs.Write.{blifText, writeBlifOf}
 use Rattle.bliftrip.specs.Trip.{BlifTrip, BlifLength, BlifRoom, BlifCover, BlifWords, BlifFile, BlifFresh}
@@ -99,11 +100,16 @@ pub record Demand2 : Type 0 where
   pub tables : (s : Session) (g : ℕ) → stateTest s ≡ Done → isGate (loadedNet s) g ≡ true
       → tablesOf s g
       ≡ tables.Given (record {
-        sdc = sdc (currentNet s) g;
+        sdc = sdcWords (sdc (currentNet s) g);
         cdc = cdc (currentNet s) g;
         full = full (currentNet s) g;
         open_table = getD (s .open_tables) (g - s .n) 0;
       })
+  -- request Five: an SDC comes as two words, lower entries first: entry e is bit e % 64 of word e / 64
+  pub sdcEntries : (N : Net) (g e : ℕ) → arity (gate N g) ≤ 6 → e < 2 ^ suc (arity (gate N g))
+      → let w = sdcWords (sdc N g) in bit (getD (w .low ∷ w .high ∷ []) (e / 64) 0) (e % 64) ≡ bit (sdc N g) e
+  -- and up to five fan-ins need the first word alone
+  pub sdcOneWord : (N : Net) (g : ℕ) → arity (gate N g) ≤ 5 → sdcWords (sdc N g) .high ≡ 0
   -- so do the words of all gates' ODC and H, in every buffer that is long enough
   pub patternSets : (s : Session) (buffer : List ℕ) → stateTest s ≡ Done → length (setWords s (s .m)) ≤ length buffer
       → patternSetsOf s buffer ≡ record { answer = Done; buffer = overwritten (setWords s (s .m)) buffer }
@@ -142,6 +148,12 @@ pub record Demand2 : Type 0 where
   -- and read again it is the same network
   pub roundTrip : (s : Session) → Shaped s → stateTest s ≡ Done
       → (t : Session) × (loadOf (bytesOf s) ≡ loadDone t) × (loadedNet t ≡ currentNet s) × (currentNet t ≡ currentNet s)
+  -- request Five: where no record `4E 48` opens what is left, a gate's tests are 01's; so old files load as before
+  pub oldRecord : OldRecord
+  pub oldFiles : OldFiles
+  -- a gate of up to four fan-ins is written as before, and so is a network of such gates
+  pub oldBytes : OldBytes
+  pub oldWritten : OldWritten
   -- all this holds in every session that a load and exchanges give
   pub reached : (bytes : List ℕ) (s : Session) (rs : List Replacement) → Bytes bytes → loadOf bytes ≡ loadDone s → Reached s (after s rs)
   -- and there a lone replacement is harmless exactly when it alters only entries of the full table

@@ -17,7 +17,8 @@ pub fn tables(session: &[u64], gate: usize, out: &mut [u64]) -> u64
     }
     match answers::tables(l.session, gate) {
         TablesAnswer::Given(t) => {
-            let row = [t.sdc, t.cdc, t.full, t.open_table];
+            let d = t.sdc;
+            let row = [d.low, d.high, t.cdc, t.full, t.open_table];
             boundary::give(&row, out);
             0
         }

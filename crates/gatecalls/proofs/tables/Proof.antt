@@ -45,7 +45,7 @@ slice-aggregate-give c = search needs
 
 give-requires : tie.Need-give-requires
 give-requires c κs =
-    let k = c .before .before .before .before .before .before in
+    let k = c .before .before .before .before .before .before .before in
     let t = k .before .before in
     let a = t .before .before .before .before .args in
     opens (tablesWork (a .gate)) (a .session .now) [] (a .out .now) (t .before .unpack .ensures) (t .room .ensures) (k .enum-told .given .1) .room
@@ -62,7 +62,7 @@ same-length c = search needs
 returns-2 : tie.Need-returns-2
 unfolding tablesCall
 returns-2 c =
-    let h = c .before .before .before .before .before .before in
+    let h = c .before .before .before .before .before .before .before in
     let k = h .before .before in
     let t = k .before .before .before in
     let a = t .before .before .before .before .args in
