@@ -3,10 +3,11 @@
  *
  * The calls of the static library libcapi.a. Each returns 0 where it did what was asked, or the number of a refusal.
  *
- * A network has n inputs (1 to 10), m gates (1 to 40) and p outputs (1 to 8); a gate has k fan-ins (1 to 4). Signals 0 to
+ * A network has n inputs (1 to 10), m gates (1 to 40) and p outputs (1 to 8); a gate has k fan-ins (1 to 6). Signals 0 to
  * n-1 are the inputs and n to n+m-1 the gates, in file order; a call names a gate by its signal number. Pattern x gives
  * input i the value of bit i of x. Entry t of a table stands at bit t and answers the fan-in values whose sum, fan-in r
- * times 2^r, is t. A set of patterns has pattern x at bit x % 64 of its word x / 64.
+ * times 2^r, is t; with six fan-ins it has all 64 bits, and none is past its end. A set of patterns has pattern x at bit
+ * x % 64 of its word x / 64.
  *
  * A one in the excluded set means that the pattern NEVER comes.
  *
@@ -55,7 +56,7 @@ enum tusqirma_refusal {
     /* the file */
     TUSQIRMA_TRUNCATED = 1,         /* bytes run out where a record is due or inside one */
     TUSQIRMA_UNEXPECTED_MARK = 2,   /* the mark is not due there */
-    TUSQIRMA_OUT_OF_BOUNDS = 3,     /* n, m, p or k outside its bounds */
+    TUSQIRMA_OUT_OF_BOUNDS = 3,     /* n, m, p or k outside its bounds; k of a file's record 4E 47: 1 to 4, of 4E 48: 5 or 6 */
     TUSQIRMA_FANIN_NOT_EARLIER = 4, /* a fan-in that is not an earlier signal */
     TUSQIRMA_FANIN_REPEATED = 5,    /* a fan-in already listed in this gate */
     TUSQIRMA_BIT_PAST_END = 6,      /* a bit set at or past 2^k in a table, or 2^n in the excluded set */
@@ -105,11 +106,11 @@ enum tusqirma_word {
 
 /* Lengths that are enough for any network. */
 enum tusqirma_most {
-    TUSQIRMA_MOST_FILE = 519,           /* bytes of a file that loads */
-    TUSQIRMA_MOST_TEXT = 1042,          /* bytes of a listing */
-    TUSQIRMA_MOST_BLIF = 5663,          /* bytes of a BLIF text from tusqirma_write_blif */
+    TUSQIRMA_MOST_FILE = 839,           /* bytes of a file that loads */
+    TUSQIRMA_MOST_TEXT = 2482,          /* bytes of a listing */
+    TUSQIRMA_MOST_BLIF = 24543,         /* bytes of a BLIF text from tusqirma_write_blif */
     TUSQIRMA_MOST_GATES = 40,           /* words for tusqirma_hidden */
-    TUSQIRMA_MOST_TABLE_WORDS = 160,    /* words for tusqirma_all_tables */
+    TUSQIRMA_MOST_TABLE_WORDS = 200,    /* words for tusqirma_all_tables */
     TUSQIRMA_MOST_PATTERN_WORDS = 1280  /* words for tusqirma_pattern_sets */
 };
 
@@ -131,7 +132,7 @@ uint64_t tusqirma_load(const uint8_t *file, size_t file_len, uint64_t *session, 
  *   .model NAME        the name is not kept
  *   .inputs NAME ..    1 to 10 names: signals 0 to n-1
  *   .outputs NAME ..   1 to 8 names, which are looked up at .end
- *   .names NAME ..     1 to 40 times: the names of 1 to 4 fan-ins, known by then, and of the gate. Its rows follow: a 0, 1
+ *   .names NAME ..     1 to 40 times: the names of 1 to 6 fan-ins, known by then, and of the gate. Its rows follow: a 0, 1
  *                      or - for each fan-in, the first leftmost, and behind them a 1, in all rows of the gate, or a 0.
  *                      The entries that some row covers have that value, the others the other; without rows all are 0.
  *   .end               nothing but blank lines and comments behind it
@@ -139,16 +140,17 @@ uint64_t tusqirma_load(const uint8_t *file, size_t file_len, uint64_t *session, 
 uint64_t tusqirma_read_blif(const uint8_t *text, size_t text_len, uint64_t *session, size_t session_len);
 
 /*
- * The tables of one gate, to `out` (4 words). The first three are of the current network; the open table is the one that
- * the session holds. Refusals 9, 10, 11.
- *   SDC         entry t + 2^k o, where o is 0 or 1, is set when o differs from the table's entry t
+ * The tables of one gate, to `out` (5 words): SDC low, SDC high, CDC, full, open. All but the last are of the current
+ * network; the open table is the one that the session holds. Refusals 9, 10, 11.
+ *   SDC         entry t + 2^k o, where o is 0 or 1, is set when o differs from the table's entry t. Its entries below 64
+ *               are the first word, the others the second, which is 0 for up to five fan-ins
  *   CDC         entry t is set when no pattern outside the excluded set gives the fan-ins the values of t
  *   full table  the entries that a lone replacement may alter: each pattern that gives t is excluded or in the ODC
  *   open table  the entries that an exchange may alter, whatever is exchanged at other gates
  */
 uint64_t tusqirma_tables(const uint64_t *session, size_t session_len, size_t gate, uint64_t *out, size_t out_len);
 
-/* The same four words of each gate, gate after gate, to `out` (4 m words). Refusals 9, 10. */
+/* The same five words of each gate, gate after gate, to `out` (5 m words). Refusals 9, 10. */
 uint64_t tusqirma_all_tables(const uint64_t *session, size_t session_len, uint64_t *out, size_t out_len);
 
 /*
@@ -198,6 +200,7 @@ uint64_t tusqirma_write_blif(const uint64_t *session, size_t session_len, uint8_
 
 /*
  * The listing of a file, from the start of `text`, and the number of its bytes to `out` (1 word). No zero byte follows.
+ * Tables have four hexadecimal digits, or, where some gate of the network has more than four fan-ins, all have sixteen.
  * A file that would not load has the listing `refused N` and a newline; the call itself then returns 0.
  * Refusal 9 (`out`, or `text` shorter than these bytes).
  */

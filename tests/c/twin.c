@@ -1,4 +1,4 @@
-/* The twin network of document 01 by every call: gates 1 and 2 copy input 0, gate 3 is their OR. */
+/* The twin network of document 01 by every call: gates 1 and 2 copy input 0, gate 3 is their OR. Then its like with six copies. */
 #include <inttypes.h>
 #include <stdio.h>
 
@@ -6,6 +6,10 @@
 
 static const uint8_t twin[] = {0x4E, 0x49, 1, 3, 1, 0x4E, 0x47, 1, 0, 2,    0, 0x4E, 0x47, 1,
                                0,    2,    0, 0x4E, 0x47, 2, 1, 2, 0x0E, 0, 0x4E, 0x4F, 3};
+
+static const uint8_t or_six[] = {0x4E, 0x49, 1, 7, 1, 0x4E, 0x47, 1, 0, 2, 0, 0x4E, 0x47, 1, 0, 2, 0, 0x4E, 0x47, 1, 0, 2, 0,
+                                 0x4E, 0x47, 1, 0, 2, 0, 0x4E, 0x47, 1, 0, 2, 0, 0x4E, 0x47, 1, 0, 2, 0,
+                                 0x4E, 0x48, 6, 1, 2, 3, 4, 5, 6, 0xFE, 0xFF, 0xFF, 0xFF, 0xFF, 0xFF, 0xFF, 0xFF, 0x4E, 0x4F, 7};
 
 static const uint8_t one_gate[] = ".model t\n.inputs a\n.outputs f\n.names a f\n1 1\n.end\n";
 
@@ -52,9 +56,9 @@ static void sets(void)
     uint64_t tables[TUSQIRMA_MOST_TABLE_WORDS];
     uint64_t words[TUSQIRMA_MOST_PATTERN_WORDS];
     uint64_t hidden[TUSQIRMA_MOST_GATES];
-    print("tables of gate 1", tusqirma_tables(session, TUSQIRMA_SESSION_WORDS, 1, tables, 4), tables, 4);
-    print("tables of gate 3", tusqirma_tables(session, TUSQIRMA_SESSION_WORDS, 3, tables, 4), tables, 4);
-    print("all tables", tusqirma_all_tables(session, TUSQIRMA_SESSION_WORDS, tables, 12), tables, 12);
+    print("tables of gate 1", tusqirma_tables(session, TUSQIRMA_SESSION_WORDS, 1, tables, 5), tables, 5);
+    print("tables of gate 3", tusqirma_tables(session, TUSQIRMA_SESSION_WORDS, 3, tables, 5), tables, 5);
+    print("all tables", tusqirma_all_tables(session, TUSQIRMA_SESSION_WORDS, tables, 15), tables, 15);
     print("pattern sets", tusqirma_pattern_sets(session, TUSQIRMA_SESSION_WORDS, words, 6), words, 6);
     print("hidden", tusqirma_hidden(session, TUSQIRMA_SESSION_WORDS, hidden, 3), hidden, 3);
 }
@@ -90,9 +94,9 @@ static void nulls(void)
     uint8_t bytes[TUSQIRMA_MOST_TEXT];
     print("load, null file", tusqirma_load(NULL, 0, session, WORDS), out, 0);
     print("load, null session", tusqirma_load(twin, sizeof twin, NULL, 0), out, 0);
-    print("tables, null session", tusqirma_tables(NULL, 0, 1, out, 4), out, 0);
+    print("tables, null session", tusqirma_tables(NULL, 0, 1, out, 5), out, 0);
     print("tables, null out", tusqirma_tables(session, WORDS, 1, NULL, 0), out, 0);
-    print("all tables, null session", tusqirma_all_tables(NULL, 0, out, 12), out, 0);
+    print("all tables, null session", tusqirma_all_tables(NULL, 0, out, 15), out, 0);
     print("all tables, null out", tusqirma_all_tables(session, WORDS, NULL, 0), out, 0);
     print("pattern sets, null session", tusqirma_pattern_sets(NULL, 0, out, 6), out, 0);
     print("pattern sets, null words", tusqirma_pattern_sets(session, WORDS, NULL, 0), out, 0);
@@ -120,17 +124,33 @@ static void nulls(void)
 
 static void refusals(void)
 {
-    uint64_t out[4];
+    uint64_t out[15];
     uint64_t n = session[TUSQIRMA_WORD_N];
     print("load one byte short", tusqirma_load(twin, sizeof twin - 1, session, TUSQIRMA_SESSION_WORDS), out, 0);
     print("load to a short session", tusqirma_load(twin, sizeof twin, session, TUSQIRMA_SESSION_WORDS - 1), out, 0);
     print("read BLIF to a short session", tusqirma_read_blif(one_gate, sizeof one_gate - 1, session, TUSQIRMA_SESSION_WORDS - 1), out, 0);
     print("read BLIF without .end", tusqirma_read_blif(one_gate, sizeof one_gate - 6, session, TUSQIRMA_SESSION_WORDS), out, 0);
     print("read BLIF without .inputs", tusqirma_read_blif(one_gate, 9, session, TUSQIRMA_SESSION_WORDS), out, 0);
-    print("tables of an input", tusqirma_tables(session, TUSQIRMA_SESSION_WORDS, 0, out, 4), out, 0);
+    print("tables to four words", tusqirma_tables(session, TUSQIRMA_SESSION_WORDS, 1, out, 4), out, 0);
+    print("all tables to fourteen words", tusqirma_all_tables(session, TUSQIRMA_SESSION_WORDS, out, 14), out, 0);
+    print("tables of an input", tusqirma_tables(session, TUSQIRMA_SESSION_WORDS, 0, out, 5), out, 0);
     session[TUSQIRMA_WORD_N] = 11;
-    print("tables of a state with n 11", tusqirma_tables(session, TUSQIRMA_SESSION_WORDS, 1, out, 4), out, 0);
+    print("tables of a state with n 11", tusqirma_tables(session, TUSQIRMA_SESSION_WORDS, 1, out, 5), out, 0);
     session[TUSQIRMA_WORD_N] = n;
+}
+
+/* Of six fan-ins: a table takes all bits of a word, and the SDC two words. */
+static void six(void)
+{
+    uint64_t tables[TUSQIRMA_MOST_TABLE_WORDS];
+    listing(or_six, sizeof or_six);
+    print("load six", tusqirma_load(or_six, sizeof or_six, session, TUSQIRMA_SESSION_WORDS), session, 3);
+    print("tables of gate 7", tusqirma_tables(session, TUSQIRMA_SESSION_WORDS, 7, tables, 5), tables, 5);
+    print("all tables", tusqirma_all_tables(session, TUSQIRMA_SESSION_WORDS, tables, 35), tables + 25, 10);
+    exchange("exchange, gate 7 to 0", 7, 0);
+    exchange("exchange, gate 7 to FFFFFFFFFFFFFFFF", 7, 0xFFFFFFFFFFFFFFFF);
+    exchange("exchange, gate 7 to FFFFFFFF00000000", 7, 0xFFFFFFFF00000000);
+    print("its table", 0, session + TUSQIRMA_WORD_CURRENT + 6, 1);
 }
 
 int main(void)
@@ -153,5 +173,6 @@ int main(void)
     write_again();
     blif();
     refusals();
+    six();
     return 0;
 }

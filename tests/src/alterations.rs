@@ -1,6 +1,6 @@
 //! Ways to alter the words of a session by hand: each cause of refusal 10, changes that are none, and any change.
 
-use crate::random::Random;
+use crate::random::{fanins, table, Random};
 use crate::reference::*;
 
 pub struct Alteration {
@@ -24,7 +24,7 @@ const fn of(what: &'static str, refused: Option<bool>, alter: Alter) -> Alterati
 const YES: Option<bool> = Some(true);
 const NO: Option<bool> = Some(false);
 
-pub const ALTERATIONS: [Alteration; 16] = [
+pub const ALTERATIONS: [Alteration; 17] = [
     of("n out of bounds", YES, |rng, _, w| {
         count(rng, &mut w[0], 10)
     }),
@@ -52,6 +52,7 @@ pub const ALTERATIONS: [Alteration; 16] = [
     of("other open tables", NO, other_open_tables),
     of("other numbers in unused places", NO, other_unused_places),
     of("other tables that fit", NO, other_tables),
+    of("other fan-ins, of any number", NO, other_fanins),
     of("some word changed", None, some_word),
 ];
 
@@ -66,20 +67,24 @@ fn count(rng: &mut Random, word: &mut u64, most: usize) -> bool {
     true
 }
 
-/// A k out of bounds, with tables and fan-ins that suit it where there are such.
+/// A k out of bounds, with tables that suit it, and with all six places of fan-ins filled well where there are so many signals.
 fn arity(rng: &mut Random, s: &State, words: &mut [u64]) -> bool {
     let g = any_gate(rng, s);
-    let any = rng.within(7, 255);
-    let k = *rng.pick(&[0, 5, 6, any]);
+    let any = rng.within(8, 255);
+    let k = *rng.pick(&[0, 7, any]);
     words[ARITY + g] = k as u64;
     if k == 0 {
         words[LOADED + g] &= 1;
         words[CURRENT + g] &= 1;
-    }
-    if k <= 6 && k <= s.loaded.n + g {
-        (0..k).for_each(|r| words[FANINS + 6 * g + r] = r as u64);
+    } else if s.loaded.n + g >= 6 {
+        lay_fanins(words, g, &[0, 1, 2, 3, 4, 5]);
     }
     true
+}
+
+fn lay_fanins(words: &mut [u64], g: usize, fanins: &[u8]) {
+    let places = words[FANINS + 6 * g..].iter_mut();
+    places.zip(fanins).for_each(|(place, &f)| *place = f.into());
 }
 
 fn late_fanin(rng: &mut Random, s: &State, words: &mut [u64]) -> bool {
@@ -104,6 +109,9 @@ fn repeated_fanin(rng: &mut Random, s: &State, words: &mut [u64]) -> bool {
 fn wide(rng: &mut Random, s: &State, tables: &mut [u64]) -> bool {
     let g = any_gate(rng, s);
     let entries = s.loaded.entries(g);
+    if entries == 64 {
+        return false;
+    }
     let any = rng.within(entries, 63);
     tables[g] |= 1 << *rng.pick(&[entries, any, 63]);
     true
@@ -174,9 +182,22 @@ fn other_unused_places(rng: &mut Random, s: &State, words: &mut [u64]) -> bool {
 
 fn other_tables(rng: &mut Random, s: &State, words: &mut [u64]) -> bool {
     for g in 0..s.loaded.m() {
-        let all = (1 << s.loaded.entries(g)) - 1;
+        let all = all_entries(s.loaded.fanins[g].len());
         words[LOADED + g] = rng.next() & all;
         words[CURRENT + g] = rng.next() & all;
+    }
+    true
+}
+
+/// Fan-ins of each gate, up to six, with tables that fit.
+fn other_fanins(rng: &mut Random, s: &State, words: &mut [u64]) -> bool {
+    for g in 0..s.loaded.m() {
+        let signals = s.loaded.n + g;
+        let k = rng.within(1, signals.min(6));
+        words[ARITY + g] = k as u64;
+        lay_fanins(words, g, &fanins(rng, signals, k));
+        words[LOADED + g] = table(rng, k);
+        words[CURRENT + g] = table(rng, k);
     }
     true
 }

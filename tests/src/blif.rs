@@ -9,7 +9,7 @@ mod written;
 
 pub use stated::texts_stated;
 pub use trips::trips;
-pub use written::{row_of, written_stated, BOARD, BOARD_BLIF};
+pub use written::{longest_in_blif, row_of, written_stated, BOARD, BOARD_BLIF};
 
 use crate::call::{Call, Lent};
 use crate::damage::any;
@@ -24,10 +24,10 @@ use lines::{laid_out, lines_of, sayable, Line};
 
 /// Reads the text by each way. One that reads has to give what loading its network's file gives, word for word.
 fn compare_text(report: &mut Report, case: &Case) -> u64 {
-    let text = Lent::file(&case.file);
+    let text = Lent::file(&Call::ReadBlif, &case.file);
     let (number, after) = report.compare(&[RAW, BINDING], &Call::ReadBlif, &text, case);
     if let Ok(network) = reference::read_blif(&case.file) {
-        let mut loaded = Lent::file(&reference::write(&network));
+        let mut loaded = Lent::file(&Call::Load, &reference::write(&network));
         (RAW.run)(&Call::Load, &mut loaded);
         let wrong = loaded.session != after.session;
         let text = || format!("{case}the network's file loads as another session");
@@ -38,7 +38,10 @@ fn compare_text(report: &mut Report, case: &Case) -> u64 {
 
 /// A text that has to be answered with this number, by the request's words and by the enumeration.
 fn answered(report: &mut Report, case: &Case, number: u64) {
-    let got = (RAW.run)(&Call::ReadBlif, &mut Lent::file(&case.file));
+    let got = (RAW.run)(
+        &Call::ReadBlif,
+        &mut Lent::file(&Call::ReadBlif, &case.file),
+    );
     let wrong = got != number;
     let text = || format!("{case}want {number}, got {got}");
     report.count(case.size(), wrong.then(text));

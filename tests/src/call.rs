@@ -29,12 +29,26 @@ pub struct Lent {
     pub out: Vec<u64>,
 }
 
-/// Bytes that are enough for any BLIF text that goes out.
-pub const MOST_BLIF: usize = 5663;
+/// Bytes that are enough for any file, for any listing and for any BLIF text that goes out.
+const MOST_FILE: usize = 839;
+const MOST_TEXT: usize = 2482;
+pub const MOST_BLIF: usize = 24543;
 
-/// More words than any call needs, and more bytes.
-pub const ROOM: usize = 1300;
-pub const BYTES: usize = MOST_BLIF + 9;
+impl Call {
+    /// More bytes than the call needs of any network, and more words.
+    pub fn room(&self) -> (usize, usize) {
+        let (bytes, words) = match self {
+            Call::Write => (MOST_FILE, 1),
+            Call::WriteBlif => (MOST_BLIF, 1),
+            Call::Listing => (MOST_TEXT, 1),
+            Call::AllTables => (0, 200),
+            Call::PatternSets => (0, 1280),
+            Call::Hidden => (0, 40),
+            _ => (0, 5),
+        };
+        (bytes + 9, words + 9)
+    }
+}
 
 impl Lent {
     /// With a known filling in the buffers that are only written.
@@ -47,14 +61,16 @@ impl Lent {
         }
     }
 
-    /// A session with more than enough room beside it.
-    pub fn session(words: &[u64]) -> Lent {
-        Lent::new(words, &[], BYTES, ROOM)
+    /// A session for this call, with more than enough room beside it.
+    pub fn session(call: &Call, words: &[u64]) -> Lent {
+        let (bytes, out) = call.room();
+        Lent::new(words, &[], bytes, out)
     }
 
-    /// A file or a text with more than enough room beside it.
-    pub fn file(file: &[u8]) -> Lent {
-        Lent::new(&filling(430), file, BYTES, ROOM)
+    /// A file or a text for this call, with more than enough room beside it.
+    pub fn file(call: &Call, file: &[u8]) -> Lent {
+        let (bytes, out) = call.room();
+        Lent::new(&filling(430), file, bytes, out)
     }
 }
 

@@ -1,10 +1,11 @@
 //! The example that converts: the board both ways, refusals, and what fails around it.
 
-use crate::blif::{row_of, BOARD, BOARD_BLIF};
+use crate::blif::{longest_in_blif, row_of, BOARD, BOARD_BLIF};
 use crate::c::{built, Program};
 use crate::engine::fed;
 use crate::reference::{load, write_blif};
 use crate::report::Report;
+use crate::wide::OR_SIX;
 use std::fs::File;
 use std::process::{Command, Output};
 
@@ -12,15 +13,19 @@ const USAGE: &str = "usage: convert in|out\n";
 
 pub fn compare(report: &mut Report) {
     let program = built(report, "examples/convert.c");
-    let board = load(BOARD).expect("the example loads");
-    let text = write_blif(&board).expect("it needs no copy");
+    let longest = longest_in_blif();
+    let [text, wide_text, longest_text] = [BOARD, OR_SIX, &longest].map(text_of);
     let long = [&b"# a comment\n".repeat(100_000)[..], BOARD_BLIF].concat();
     let crowded = row_of(40);
     for (way, input, output) in [
         ("in", BOARD_BLIF, BOARD),
-        ("out", BOARD, text.as_bytes()),
-        ("in", text.as_bytes(), BOARD),
+        ("out", BOARD, &text),
+        ("in", &text, BOARD),
         ("in", &long, BOARD),
+        ("out", OR_SIX, &wide_text),
+        ("in", &wide_text, OR_SIX),
+        ("out", &longest, &longest_text),
+        ("in", &longest_text, &longest),
     ] {
         run(report, &program, &[way], input, (output, "", 0));
     }
@@ -39,6 +44,12 @@ pub fn compare(report: &mut Report) {
         run(report, &program, words, BOARD, (b"", USAGE, 2));
     }
     failures(report, &program);
+}
+
+/// The text of a file's network, which needs no copy.
+fn text_of(file: &[u8]) -> Vec<u8> {
+    let network = load(file).expect("it loads");
+    write_blif(&network).expect("it needs no copy").into()
 }
 
 /// What is due on standard output and on standard error, and the exit status.

@@ -22,7 +22,7 @@ fn chain(n: u8, m: u8, excluded: usize, output: u8) -> Vec<u8> {
 
 /// The counts of a session have to be these, by 01's words and by the enumeration; a word too few is 9.
 fn counted(report: &mut Report, case: &Case, session: &[u64], want: &[u64]) {
-    let lent = Lent::session(session);
+    let lent = Lent::session(&Call::Hidden, session);
     let (_, after) = report.compare(&[RAW, BINDING], &Call::Hidden, &lent, case);
     let got = &after.out[..want.len()];
     let wrong = got != want;
@@ -65,13 +65,14 @@ fn first_excluded(report: &mut Report, n: u8, c: usize) {
 /// once that is loaded.
 fn exchanged(report: &mut Report) {
     let case = Case::new(0, &TWIN).after("gate 3 to C");
-    let fresh = Lent::session(&loaded(report, &TWIN));
     let exchange = Call::Exchange {
         gate: 3,
         table: 0xC,
     };
+    let fresh = Lent::session(&exchange, &loaded(report, &TWIN));
     let (_, after) = report.compare(&[RAW, BINDING], &exchange, &fresh, &case);
     counted(report, &case, &after.session, &[1, 0, 0]);
+    let after = Lent::session(&Call::Write, &after.session);
     let (_, written) = report.compare(&[RAW, BINDING], &Call::Write, &after, &case);
     let file = &written.bytes[..written.out[0] as usize];
     let again = loaded(report, file);

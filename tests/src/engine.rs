@@ -129,10 +129,10 @@ fn lay_session(lent: &mut Lent, session: &Session) {
 /// The calls on a session whose words go to `out`.
 fn on_session(call: &Call, lent: &mut Lent) -> Result<(), Refusal> {
     let mut session = session(lent);
-    let four = |t: Tables| [t.sdc, t.cdc, t.full, t.open];
+    let five = |t: Tables| [t.sdc[0], t.sdc[1], t.cdc, t.full, t.open];
     let filled: Vec<u64> = match call {
-        Call::Tables { gate } => four(session.tables(*gate)?).to_vec(),
-        Call::AllTables => session.all_tables()?.into_iter().flat_map(four).collect(),
+        Call::Tables { gate } => five(session.tables(*gate)?).to_vec(),
+        Call::AllTables => session.all_tables()?.into_iter().flat_map(five).collect(),
         Call::PatternSets => {
             let sets = session.pattern_sets()?;
             let of_gate = |s: &tusqirma::PatternSets| [&s.odc[..], &s.compatible[..]].concat();

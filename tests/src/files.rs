@@ -3,6 +3,7 @@
 use crate::call::{Call, Lent};
 use crate::damage;
 use crate::engine::{BINDING, PROGRAM, RAW};
+use crate::old_files;
 use crate::random::{self, Random};
 use crate::report::{Case, Report};
 
@@ -13,17 +14,19 @@ pub const TWIN: [u8; 27] = [
 
 pub const HEAD: &str = "gate cdc full open hidden\n";
 
-/// Load and listing of a file by every way.
+/// Load and listing of a file by every way, and its load as it was before wide gates.
 fn compare_file(report: &mut Report, case: &Case) -> u64 {
-    let file = Lent::file(&case.file);
-    report.compare(&[RAW, BINDING, PROGRAM], &Call::Listing, &file, case);
-    report.compare(&[RAW, BINDING], &Call::Load, &file, case).0
+    let file = |call| Lent::file(call, &case.file);
+    let (list, load) = (Call::Listing, Call::Load);
+    report.compare(&[RAW, BINDING, PROGRAM], &list, &file(&list), case);
+    old_files::loads(report, case);
+    report.compare(&[RAW, BINDING], &load, &file(&load), case).0
 }
 
 /// A file that load has to answer with this number, by 01's words and by the enumeration.
-fn stated(report: &mut Report, what: &str, file: &[u8], number: u64) {
+pub fn stated(report: &mut Report, what: &str, file: &[u8], number: u64) {
     let case = Case::new(0, file).after(what);
-    let got = (RAW.run)(&Call::Load, &mut Lent::file(file));
+    let got = (RAW.run)(&Call::Load, &mut Lent::file(&Call::Load, file));
     let wrong = got != number;
     report.count(
         case.size(),
@@ -36,7 +39,7 @@ fn stated(report: &mut Report, what: &str, file: &[u8], number: u64) {
 pub fn listed(report: &mut Report, what: &str, file: &[u8], text: &str) {
     stated(report, what, file, 0);
     for way in [RAW, BINDING, PROGRAM] {
-        let mut lent = Lent::file(file);
+        let mut lent = Lent::file(&Call::Listing, file);
         (way.run)(&Call::Listing, &mut lent);
         let got = String::from_utf8_lossy(&lent.bytes[..lent.out[0] as usize]);
         let wrong = got != text;
@@ -47,7 +50,8 @@ pub fn listed(report: &mut Report, what: &str, file: &[u8], text: &str) {
 /// The session that a load of the file gives.
 pub fn loaded(report: &mut Report, file: &[u8]) -> Vec<u64> {
     let case = Case::new(0, file);
-    let (_, after) = report.compare(&[RAW, BINDING], &Call::Load, &Lent::file(file), &case);
+    let lent = Lent::file(&Call::Load, file);
+    let (_, after) = report.compare(&[RAW, BINDING], &Call::Load, &lent, &case);
     after.session
 }
 
@@ -139,6 +143,9 @@ pub fn damaged(report: &mut Report, seed: u64, cases: usize) {
         let number = i as u64 % 8 + 1;
         if let Some(bad) = damage::targeted(&mut rng, &file, number) {
             stated(report, &format!("damaged for {number}"), &bad, number);
+            if damage::is_at_wide_gate(&file, &bad) {
+                report.see(format!("{number} at a wide gate"));
+            }
         }
         if let Some(bad) = twice(&mut rng, &file) {
             compare_file(report, &Case::new(i, &bad));
@@ -147,6 +154,10 @@ pub fn damaged(report: &mut Report, seed: u64, cases: usize) {
         compare_file(report, &Case::new(i, &bad));
     });
     report.require_answers(1..=8);
+    old_files::require(report, 0..=8);
+    for number in 1..=6 {
+        report.require_seen(&format!("{number} at a wide gate"));
+    }
 }
 
 /// The file with two damages, each for one of the refusals 2 to 7.
@@ -163,15 +174,26 @@ fn twice(rng: &mut Random, file: &[u8]) -> Option<Vec<u8>> {
 pub fn random_bytes(report: &mut Report, seed: u64, cases: usize) {
     report.cases(cases, |report, i| {
         let mut rng = Random::new(seed, report.name(), i);
-        let (length, most) = (rng.within(0, 40), *rng.pick(&[4, 256]));
+        let (length, most) = (rng.within(0, 40), *rng.pick(&[4, 7, 256]));
         let mut bytes: Vec<u8> = (0..length).map(|_| (rng.next() % most) as u8).collect();
-        let (n, m, k) = (rng.within(1, 4), rng.within(1, 2), rng.within(1, 4));
-        let begin = [0x4E, 0x49, n as u8, m as u8, 1, 0x4E, 0x47, k as u8];
+        let (n, m) = (rng.within(1, 7), rng.within(1, 2));
+        let (mark, k) = match rng.chance(2) {
+            true => (0x47, rng.within(1, 4)),
+            false => (0x48, rng.within(5, 6)),
+        };
+        let begin = [0x4E, 0x49, n as u8, m as u8, 1, 0x4E, mark, k as u8];
         let kept = rng.within(0, 2 * begin.len());
         for (byte, known) in bytes.iter_mut().zip(begin.iter().take(kept)) {
             *byte = *known;
         }
-        compare_file(report, &Case::new(i, &bytes));
+        let number = compare_file(report, &Case::new(i, &bytes));
+        if bytes.get(5..7) == Some(b"NH") {
+            report.see(format!("{number} at a wide gate"));
+        }
     });
     report.require_answers(1..=6);
+    old_files::require(report, 1..=6);
+    for number in [1, 3, 4, 5] {
+        report.require_seen(&format!("{number} at a wide gate"));
+    }
 }

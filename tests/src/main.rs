@@ -17,6 +17,7 @@ mod engine;
 mod example;
 mod files;
 mod networks;
+mod old_files;
 mod order;
 mod program;
 mod random;
@@ -28,6 +29,7 @@ mod short;
 mod stack;
 mod states;
 mod users;
+mod wide;
 
 use report::Report;
 
@@ -56,6 +58,7 @@ fn main() {
     report.part("excluded patterns", files::excluded);
     report.part("pattern counts", counts::compare);
     report.part("order of a file's tests", files::order);
+    report.part("six fan-ins", wide::compare);
     report.part("damaged files", |r| files::damaged(r, seed, count));
     report.part("random bytes", |r| files::random_bytes(r, seed, count));
     report.part("stack", |r| stack::compare(r, seed));
@@ -72,6 +75,7 @@ fn main() {
     report.part("cut BLIF texts", |r| blif::cuts(r, seed, few));
     report.part("short buffers", |r| short::compare(r, seed, few));
     report.part("stated orders", order::stated);
+    report.part("stated orders on wide boards", order::wide);
     report.part("files and outputs that fail", order::failures);
     let some = (count / 10).max(500);
     report.part("orders", |r| order::orders(r, seed, some));

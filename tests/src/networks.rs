@@ -2,6 +2,7 @@
 
 use crate::call::{Call, Lent};
 use crate::engine::{BINDING, PROGRAM, RAW};
+use crate::old_files::same_bytes;
 use crate::random::{self, Random};
 use crate::reference::{self, Network, State};
 use crate::report::{Case, Report};
@@ -16,14 +17,16 @@ pub fn compare(report: &mut Report, seed: u64, cases: usize) {
     });
     require_counts(report);
     require_excluded(report);
+    report.require_seen("a network written and listed as before");
 }
 
 fn compare_file(report: &mut Report, case: &Case) {
-    let file = Lent::file(&case.file);
-    let (_, fresh) = report.compare(&[RAW, BINDING], &Call::Load, &file, case);
-    report.compare(&[RAW, BINDING, PROGRAM], &Call::Listing, &file, case);
-    let session = Lent::session(&fresh.session);
+    let file = |call| Lent::file(call, &case.file);
+    let (load, list) = (Call::Load, Call::Listing);
+    let (_, fresh) = report.compare(&[RAW, BINDING], &load, &file(&load), case);
+    report.compare(&[RAW, BINDING, PROGRAM], &list, &file(&list), case);
     let state = State::read(&fresh.session).expect("fresh from a load");
+    same_bytes(report, case, &state.loaded, &fresh.session);
     let gates = state.loaded.n..state.loaded.n + state.loaded.m();
     let each = gates.map(|gate| Call::Tables { gate });
     let all = [
@@ -34,6 +37,7 @@ fn compare_file(report: &mut Report, case: &Case) {
         Call::WriteBlif,
     ];
     for call in each.chain(all) {
+        let session = Lent::session(&call, &fresh.session);
         report.compare(&[RAW, BINDING], &call, &session, case);
     }
 }
@@ -50,6 +54,11 @@ pub fn see_counts(report: &mut Report, s: &Network) {
     if s.n == 10 && m == 40 {
         report.see("n 10 and m 40");
     }
+    report.see(match (s.is_wide(), s.fanins.iter().all(|f| f.len() > 4)) {
+        (false, _) => "narrow gates only",
+        (true, false) => "narrow and wide gates",
+        (true, true) => "wide gates only",
+    });
 }
 
 /// Notes the kind of the excluded set, and whether the CDC of a gate shows it.
@@ -76,12 +85,28 @@ fn see_excluded(report: &mut Report, s: &Network) {
     }
 }
 
-/// Each number of inputs, outputs and fan-ins, one gate and forty have to have been met.
+fn require_each(report: &mut Report, name: &str, most: usize) {
+    (1..=most).for_each(|c| report.require_seen(&format!("{name} {c}")));
+}
+
+/// Gates of every number of fan-ins have to have been met.
+pub fn require_arities(report: &mut Report) {
+    require_each(report, "k", 6);
+}
+
+/// Each number of inputs, outputs and fan-ins, one gate and forty, and each mixture of gates have to have been met.
 pub fn require_counts(report: &mut Report) {
-    let all = |name: &'static str, most| (1..=most).map(move |c| format!("{name} {c}"));
-    let counts = all("n", 10).chain(all("p", 8)).chain(all("k", 4));
-    counts.for_each(|what| report.require_seen(&what));
-    for what in ["m 1", "m 40", "n 10 and m 40"] {
+    require_each(report, "n", 10);
+    require_each(report, "p", 8);
+    require_arities(report);
+    for what in [
+        "m 1",
+        "m 40",
+        "n 10 and m 40",
+        "narrow gates only",
+        "narrow and wide gates",
+        "wide gates only",
+    ] {
         report.require_seen(what);
     }
 }

@@ -3,10 +3,12 @@
 mod failures;
 mod random;
 mod stated;
+mod wide;
 
 pub use failures::failures;
 pub use random::{chains, orders};
 pub use stated::stated;
+pub use wide::wide;
 
 use crate::reference;
 use crate::report::{Case, Report};

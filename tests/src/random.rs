@@ -1,5 +1,7 @@
 //! Random networks over all bounds, from a seed that is printed.
 
+use crate::reference::{all_entries, bit};
+
 /// xorshift64*: small, and the same everywhere.
 pub struct Random(u64);
 
@@ -58,24 +60,24 @@ pub fn small_network(rng: &mut Random) -> Vec<u8> {
 /// The file of a network, as long as any that loads.
 pub fn longest_network(rng: &mut Random) -> Vec<u8> {
     let head = [0x4E, 0x49, 10, 40, 8, 0x4E, 0x58];
-    let gates = (0..40).flat_map(|_| {
-        let table = table(rng, 4).to_le_bytes();
-        [&[0x4E, 0x47, 4, 0, 1, 2, 3], &table[..]].concat()
-    });
+    let gates = (0..40).flat_map(|_| record(&[0, 1, 2, 3, 4, 5], table(rng, 6)));
     let gates: Vec<u8> = gates.collect();
     [&head[..], &[1; 128], &gates, &[0x4E, 0x4F, 49].repeat(8)].concat()
 }
 
-/// The file of a random network with n inputs and m gates.
+/// The least and the most fan-ins of a network's gates: narrow gates only, mixed, or wide ones only.
+const ARITIES: [(usize, usize); 3] = [(1, 4), (1, 6), (5, 6)];
+
+/// The file of a random network with n inputs and m gates, which have fewer fan-ins only where there are not so many signals.
 pub fn network_of(rng: &mut Random, n: usize, m: usize) -> Vec<u8> {
-    let p = rng.within(1, 8);
+    let (p, arities) = (rng.within(1, 8), *rng.pick(&ARITIES));
     let mut file = vec![0x4E, 0x49, n as u8, m as u8, p as u8];
     file.extend(excluded(rng, n));
     let mut record = Vec::new();
     for g in 0..m {
         // now and then the twin of the gate before, so that each hides the other
         if g == 0 || !rng.chance(6) {
-            record = gate(rng, n + g);
+            record = gate(rng, n + g, arities);
         }
         file.extend(&record);
     }
@@ -94,10 +96,20 @@ fn output(rng: &mut Random, signals: usize, p: usize) -> [u8; 3] {
 }
 
 /// The record of a gate with so many signals before it.
-fn gate(rng: &mut Random, signals: usize) -> Vec<u8> {
-    let fanins = fanins(rng, signals);
-    let table = table(rng, fanins.len()).to_le_bytes();
-    [&[0x4E, 0x47, fanins.len() as u8], &fanins[..], &table].concat()
+fn gate(rng: &mut Random, signals: usize, (least, most): (usize, usize)) -> Vec<u8> {
+    let k = rng.within(least.min(signals), most.min(signals));
+    let fanins = fanins(rng, signals, k);
+    record(&fanins, table(rng, k))
+}
+
+fn record(fanins: &[u8], table: u64) -> Vec<u8> {
+    let (mark, width) = if fanins.len() > 4 {
+        (0x48, 8)
+    } else {
+        (0x47, 2)
+    };
+    let table = &table.to_le_bytes()[..width];
+    [&[0x4E, mark, fanins.len() as u8], fanins, table].concat()
 }
 
 /// No record, or one of an empty, a sparse, a dense or a full excluded set, or of whole words of 64 patterns.
@@ -125,8 +137,7 @@ fn excluded(rng: &mut Random, n: usize) -> Vec<u8> {
 }
 
 /// Fan-ins among the earlier signals; late ones more often, so that networks are deep and gates hide each other.
-fn fanins(rng: &mut Random, signals: usize) -> Vec<u8> {
-    let k = rng.within(1, 4.min(signals));
+pub fn fanins(rng: &mut Random, signals: usize, k: usize) -> Vec<u8> {
     let mut fanins: Vec<u8> = Vec::new();
     while fanins.len() < k {
         let low = if rng.chance(2) {
@@ -142,22 +153,23 @@ fn fanins(rng: &mut Random, signals: usize) -> Vec<u8> {
     fanins
 }
 
-/// A table of k fan-ins: any, one with few or many ones, or one that does not depend on one of them.
-fn table(rng: &mut Random, k: usize) -> u16 {
-    let mut table = rng.next() as u16;
-    match rng.within(0, 6) {
-        0 => table &= (rng.next() & rng.next()) as u16,
-        1 => table |= (rng.next() | rng.next()) as u16,
+/// A table of k fan-ins: any, one with few or many ones, with a single one or a single zero, or one that does not depend on one
+/// of them.
+pub fn table(rng: &mut Random, k: usize) -> u64 {
+    let mut table = rng.next();
+    match rng.within(0, 7) {
+        0 => table &= rng.next() & rng.next(),
+        1 => table |= rng.next() | rng.next(),
         2 => {
+            let one = 1 << rng.within(0, (1 << k) - 1);
+            table = *rng.pick(&[one, !one]);
+        }
+        3 => {
             let r = rng.within(0, k - 1);
-            table = (0..16)
-                .filter(|t| table >> (t & !(1 << r)) & 1 == 1)
-                .fold(0, |set, t| set | 1 << t);
+            let entries = (0..64).filter(|t| bit(table, t & !(1 << r)));
+            table = entries.fold(0, |set, t| set | 1 << t);
         }
         _ => {}
     }
-    if k < 4 {
-        table &= (1 << (1 << k)) - 1;
-    }
-    table
+    table & all_entries(k)
 }

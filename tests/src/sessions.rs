@@ -4,7 +4,7 @@
 use crate::call::{Call, Lent};
 use crate::engine::{ways, BINDING, RAW};
 use crate::random::{self, Random};
-use crate::reference::{self, State, WORDS};
+use crate::reference::{self, old_format, State, WORDS};
 use crate::report::{differs, outcome, Case, Report};
 use crate::users::{calls, User};
 
@@ -19,13 +19,20 @@ pub fn compare(report: &mut Report, seed: u64, cases: usize) {
         report.require_seen(&format!("{size}: 0"));
         report.require_seen(&format!("{size}: 14"));
     }
+    for k in 1..=6 {
+        report.require_seen(&format!("exchange at k {k}: 0"));
+        report.require_seen(&format!("exchange at k {k}: 13"));
+    }
+    for k in 1..=5 {
+        report.require_seen(&format!("exchange at k {k}: 12"));
+    }
     report.require_seen("no gate: 0");
     report.require_seen("more pairs than gates: 16");
 }
 
 /// A random list of calls on the case's network.
 fn compare_list(report: &mut Report, mut rng: Random, mut case: Case) {
-    let file = Lent::file(&case.file);
+    let file = Lent::file(&Call::Load, &case.file);
     let (_, loaded) = report.compare(&[RAW, BINDING], &Call::Load, &file, &case);
     let fresh = State::read(&loaded.session).expect("a random network loads");
     let list = calls(&mut rng, &fresh);
@@ -40,6 +47,7 @@ fn compare_list(report: &mut Report, mut rng: Random, mut case: Case) {
     for (call, &answer) in list.iter().zip(&course.answers) {
         report.meet(answer);
         report.see_verdict(call, answer, fresh.loaded.m());
+        see_exchange(report, call, answer, &fresh);
     }
     if let Some(fault) = course.fault {
         let (list, fault) = match report.smaller(case.size()) {
@@ -48,6 +56,15 @@ fn compare_list(report: &mut Report, mut rng: Random, mut case: Case) {
         };
         case.before = list.iter().map(|call| format!("{call:?}")).collect();
         report.count(case.size(), Some(format!("{case}{fault}")));
+    }
+}
+
+/// Notes the fan-ins of the gate that an exchange is at, and its answer.
+fn see_exchange(report: &mut Report, call: &Call, answer: u64, fresh: &State) {
+    let place = gate_of(call).map(|gate| fresh.place(gate));
+    if let Some(Ok(g)) = place {
+        let k = fresh.loaded.fanins[g].len();
+        report.see(format!("exchange at k {k}: {answer}"));
     }
 }
 
@@ -79,7 +96,7 @@ impl Course {
 
     /// One call by each way. Gives the session after it by 01.
     fn step(&mut self, words: &[u64], call: &Call) -> Vec<u64> {
-        let lent = Lent::session(words);
+        let lent = Lent::session(call, words);
         let (number, after) = outcome(call, &lent);
         for way in ways(call) {
             self.note(differs(way, call, &lent, number, &after));
@@ -119,12 +136,12 @@ struct Run {
 impl Run {
     /// Loads the file; then each call gets the session that the one before left.
     fn new(file: &[u8], list: &[Call]) -> Run {
-        let mut loaded = Lent::file(file);
+        let mut loaded = Lent::file(&Call::Load, file);
         (RAW.run)(&Call::Load, &mut loaded);
         let mut words = loaded.session[..WORDS].to_vec();
         let mut answers = Vec::new();
         for call in list {
-            let mut lent = Lent::session(&words);
+            let mut lent = Lent::session(call, &words);
             let number = (RAW.run)(call, &mut lent);
             answers.push((number, lent.out));
             words = lent.session;
@@ -165,24 +182,29 @@ fn last_accepted(fresh: &State, list: &[Call], run: &Run) -> Option<String> {
     (due.words() != run.words).then(|| "not the tables last accepted".into())
 }
 
-/// The network, written and loaded again, is the same network.
+/// The network, written and loaded again, is the same network; without wide gates its file is the one that was written before them.
 fn written_again(run: &Run) -> Option<String> {
     let now = State::read(&run.words).map(|s| s.current);
-    let mut lent = Lent::session(&run.words);
+    let mut lent = Lent::session(&Call::Write, &run.words);
     (RAW.run)(&Call::Write, &mut lent);
     let file = &lent.bytes[..lent.out[0] as usize];
-    let mut again = Lent::file(file);
+    let mut again = Lent::file(&Call::Load, file);
     (RAW.run)(&Call::Load, &mut again);
     let read = State::read(&again.session).map(|s| s.loaded);
     let same = reference::load(file) == now && read == now;
-    (!same).then(|| "written and loaded again, another network".into())
+    let as_before = now.is_ok_and(|s| s.is_wide() || old_format::write(&s) == file);
+    match (same, as_before) {
+        (false, _) => Some("written and loaded again, another network".into()),
+        (true, false) => Some("not written as before wide gates".into()),
+        (true, true) => None,
+    }
 }
 
 /// Pairs that exchanges would accept, each for itself, are harmless on one verdict.
 fn harmless_together(pairs: &[(u64, u64)], run: &Run) -> Option<String> {
     let (gates, tables) = pairs.iter().copied().unzip();
     let call = Call::Verdict { gates, tables };
-    let number = (RAW.run)(&call, &mut Lent::session(&run.words));
+    let number = (RAW.run)(&call, &mut Lent::session(&call, &run.words));
     (number != 0).then(|| format!("{call:?}: {number}"))
 }
 

@@ -2,9 +2,10 @@
 //! and longer. Every word and byte of every buffer is compared.
 
 use crate::blif;
-use crate::call::{filling, Call, Lent, BYTES, ROOM};
+use crate::call::{filling, Call, Lent};
 use crate::damage;
 use crate::engine::RAW;
+use crate::networks::{require_arities, see_counts};
 use crate::random::{self, Random};
 use crate::reference::{self, State, WORDS};
 use crate::report::{differs, outcome, Case, Report};
@@ -30,6 +31,7 @@ pub fn compare(report: &mut Report, seed: u64, cases: usize) {
         short.compare();
     });
     report.require_answers((0..=9).chain(11..=18));
+    require_arities(report);
 }
 
 /// Verdicts and exchanges, whose answers differ most.
@@ -42,8 +44,8 @@ fn needed(call: &Call, s: &State, file: &[u8]) -> (usize, usize) {
     let (m, patterns) = (s.loaded.m(), s.loaded.patterns());
     match call {
         Call::Load | Call::ReadBlif => (0, 0),
-        Call::Tables { .. } => (0, 4),
-        Call::AllTables => (0, 4 * m),
+        Call::Tables { .. } => (0, 5),
+        Call::AllTables => (0, 5 * m),
         Call::PatternSets => (0, 2 * m * (patterns / 64).max(1)),
         Call::Hidden => (0, m),
         Call::Verdict { .. } => (0, 2),
@@ -69,15 +71,17 @@ impl Short<'_> {
     fn compare(&mut self) {
         let file = self.case.file.clone();
         let state = State::fresh(reference::load(&file).expect("a random network loads"));
+        see_counts(self.report, &state.loaded);
         let list = calls(&mut self.rng, &state);
         let more = (0..8).flat_map(|_| calls(&mut self.rng, &state));
         let more: Vec<Call> = more.filter(judges).collect();
-        let session = Lent::session(&state.words());
+        let words = state.words();
         list.iter().for_each(|call| self.session(call, &state));
         for call in list.iter().chain(&more) {
-            self.others(call, &session, &state);
+            self.others(call, &Lent::session(call, &words), &state);
         }
-        self.others(&Call::Listing, &Lent::file(&file), &state);
+        let lent = Lent::file(&Call::Listing, &file);
+        self.others(&Call::Listing, &lent, &state);
         self.fresh(&Call::Load, &file);
         let text = blif::text(&mut self.rng, &file);
         self.fresh(&Call::ReadBlif, &text);
@@ -120,12 +124,13 @@ impl Short<'_> {
     /// A session cut short is 9, whatever it holds and however short the others are; words behind it stay.
     fn session(&mut self, call: &Call, s: &State) {
         let words = [s.words(), filling(9)].concat();
+        let room = call.room();
         for length in self.lengths(WORDS) {
             let short = length < WORDS;
             let (bytes, out) = if short {
-                *self.rng.pick(&[(0, 0), (1, 1), (BYTES, ROOM)])
+                *self.rng.pick(&[(0, 0), (1, 1), room])
             } else {
-                (BYTES, ROOM)
+                room
             };
             let session = match short && self.rng.chance(2) {
                 true => filling(length),

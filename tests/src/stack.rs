@@ -4,6 +4,7 @@
 use crate::blif;
 use crate::call::{Call, Lent};
 use crate::engine::RAW;
+use crate::networks::{require_arities, see_counts};
 use crate::random::{self, Random};
 use crate::reference::{load, State};
 use crate::report::{differs, outcome, Case, Report};
@@ -18,16 +19,18 @@ pub fn compare(report: &mut Report, seed: u64) {
         let file = random::network_of(&mut rng, 10, 40);
         let case = Case::new(i, &file);
         let state = State::fresh(load(&file).expect("a random network loads"));
+        see_counts(report, &state.loaded);
         for call in calls(&mut rng, &state).iter().chain(&verdicts(&state)) {
-            compare_call(report, call, &Lent::session(&state.words()), &case);
+            compare_call(report, call, &Lent::session(call, &state.words()), &case);
         }
         for call in [Call::Load, Call::Listing] {
-            compare_call(report, &call, &Lent::file(&file), &case);
+            compare_call(report, &call, &Lent::file(&call, &file), &case);
         }
-        let text = Lent::file(&blif::text(&mut rng, &file));
+        let text = Lent::file(&Call::ReadBlif, &blif::text(&mut rng, &file));
         compare_call(report, &Call::ReadBlif, &text, &case);
     }
     report.require_answers([0, 15, 16]);
+    require_arities(report);
 }
 
 /// All gates at once, with their first entries altered; a table less than gates; and a gate named again.

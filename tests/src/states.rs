@@ -1,8 +1,9 @@
 //! Session words made by hand: what each call answers, and that a refused one leaves all that is lent as it was.
 
 use crate::alterations::{Alteration, ALTERATIONS};
-use crate::call::{Call, Lent, ROOM};
+use crate::call::{Call, Lent};
 use crate::engine::{ways, RAW};
+use crate::networks::{require_arities, see_counts};
 use crate::random::{self, Random};
 use crate::reference::{load, State};
 use crate::report::{Case, Report};
@@ -23,6 +24,7 @@ pub fn compare(report: &mut Report, seed: u64, cases: usize) {
         .for_each(|how| report.require_seen(how.what));
     report.require_answers([0].into_iter().chain(9..=16));
     report.require_seen("no gate: 14");
+    require_arities(report);
 }
 
 /// The calls on the case's session, altered, where it has a place for that.
@@ -33,11 +35,15 @@ fn compare_altered(report: &mut Report, mut rng: Random, how: &Alteration, case:
         return;
     }
     report.see(how.what);
+    if let Ok(made) = State::read(&words) {
+        see_counts(report, &made.loaded);
+    }
     let changed = changes(&state.words(), &words);
     let case = case.after(format!("{}: {changed}", how.what));
     for call in &calls(&mut rng, &state) {
-        let room = Lent::session(&words);
-        let scarce = Lent::new(&words, &[], rng.within(0, ROOM), rng.within(0, 6));
+        let room = Lent::session(call, &words);
+        let bytes = rng.within(0, room.bytes.len());
+        let scarce = Lent::new(&words, &[], bytes, rng.within(0, 6));
         let answers = [
             report.compare(ways(call), call, &room, &case).0,
             report.compare(&[RAW], call, &scarce, &case).0,

@@ -3,7 +3,7 @@
 
 use crate::call::Call;
 use crate::random::Random;
-use crate::reference::State;
+use crate::reference::{all_entries, State};
 
 /// A random list of calls on a session fresh from a load, with the tables, sets and bytes asked for at the end.
 pub fn calls(rng: &mut Random, fresh: &State) -> Vec<Call> {
@@ -120,10 +120,11 @@ impl User<'_> {
         let (n, m) = (self.fresh.loaded.n, self.fresh.loaded.m());
         let gate = self.rng.within(n, n + m - 1);
         let again = pairs.get(self.rng.within(0, pairs.len()));
-        match self.rng.within(0, 2) {
-            0 => (self.no_gate() as u64, self.rng.next()),
-            1 => (gate as u64, self.too_wide(gate - n)),
-            _ => *again.unwrap_or(&(gate as u64, self.fresh.loaded.tables[gate - n])),
+        let wide = self.too_wide(gate - n);
+        match (self.rng.within(0, 2), wide) {
+            (1, Some(wide)) => (gate as u64, wide),
+            (2, _) => *again.unwrap_or(&(gate as u64, self.fresh.loaded.tables[gate - n])),
+            _ => (self.no_gate() as u64, self.rng.next()),
         }
     }
 
@@ -160,9 +161,9 @@ impl User<'_> {
         let Ok(g) = self.fresh.place(gate) else {
             return self.rng.next();
         };
-        match self.rng.within(0, 9) {
-            9 => self.too_wide(g),
-            kind => self.table_of(gate, kind),
+        match (self.rng.within(0, 9), self.too_wide(g)) {
+            (9, Some(wide)) => wide,
+            (kind, _) => self.table_of(gate, kind),
         }
     }
 
@@ -172,7 +173,7 @@ impl User<'_> {
         let g = gate - self.fresh.loaded.n;
         let (loaded, open) = (self.fresh.loaded.tables[g], self.fresh.open[g]);
         let entries = self.fresh.loaded.entries(g);
-        let all = (1 << entries) - 1;
+        let all = all_entries(self.fresh.loaded.fanins[g].len());
         let some = self.rng.next();
         let table = match kind {
             0 => *self.rng.pick(&[some & all, loaded ^ all]),
@@ -191,10 +192,14 @@ impl User<'_> {
         table
     }
 
-    fn too_wide(&mut self, g: usize) -> u64 {
+    /// None is for a gate of six fan-ins.
+    fn too_wide(&mut self, g: usize) -> Option<u64> {
         let (loaded, entries) = (self.fresh.loaded.tables[g], self.fresh.loaded.entries(g));
+        if entries == 64 {
+            return None;
+        }
         let (next, any) = (1 << entries, 1 << self.rng.within(entries, 63));
         let wide = [loaded | next, loaded | any, 1 << 63, u64::MAX];
-        *self.rng.pick(&wide)
+        Some(*self.rng.pick(&wide))
     }
 }

@@ -26,7 +26,7 @@ pub use refusal::Refusal;
 pub use session::{PatternSets, Session, Tables, SESSION_WORDS};
 
 /// Enough for any listing.
-const MOST_TEXT: usize = 1042;
+const MOST_TEXT: usize = 2482;
 
 /// The listing of a file; of one that would not load, the line `refused N`.
 pub fn listing(file: &[u8]) -> String {

@@ -10,7 +10,8 @@ pub enum Refusal {
     Truncated,
     /// 2: the mark is not due there.
     UnexpectedMark,
-    /// 3: n, m, p or k outside its bounds; in a text that goes out, with the copies among the gates.
+    /// 3: n, m, p or k outside its bounds, which in a file are those of the gate's record; in a text that goes out, with the
+    /// copies among the gates.
     OutOfBounds,
     /// 4: a fan-in that is not an earlier signal.
     FaninNotEarlier,

@@ -6,10 +6,12 @@ use crate::{raw, Refusal};
 pub const SESSION_WORDS: usize = 427;
 
 /// Bytes of the longest file that loads.
-const MOST_FILE: usize = 519;
+const MOST_FILE: usize = 839;
 /// Enough for any BLIF text that goes out.
-const MOST_BLIF: usize = 5663;
+const MOST_BLIF: usize = 24543;
 const MOST_GATES: usize = 40;
+/// Words of a gate's tables.
+const TABLE_WORDS: usize = 5;
 /// Words of a set of patterns with ten inputs.
 const MOST_SET: usize = 16;
 
@@ -23,7 +25,8 @@ pub struct Session {
 #[derive(Clone, Copy, Debug, PartialEq, Eq)]
 pub struct Tables {
     /// Satisfiability don't cares of the current network: entry t + 2^k·o is set when o differs from the table's entry t.
-    pub sdc: u64,
+    /// Lower entries first; the second word is 0 for up to five fan-ins.
+    pub sdc: [u64; 2],
     /// Controllability don't cares of the current network: entry t is set when no pattern outside the excluded set gives it.
     pub cdc: u64,
     /// The entries that a lone replacement may alter in the current network.
@@ -75,16 +78,16 @@ impl Session {
 
     /// The tables of the gate with this signal number. Refusals 10, 11.
     pub fn tables(&self, gate: usize) -> Result<Tables, Refusal> {
-        let mut out = [0; 4];
+        let mut out = [0; TABLE_WORDS];
         Refusal::of(raw::tables(&self.words[..], gate, &mut out), &[])?;
         Ok(Tables::of(&out))
     }
 
     /// The tables of each gate, gate after gate. Refusal 10.
     pub fn all_tables(&self) -> Result<Vec<Tables>, Refusal> {
-        let mut out = [0; 4 * MOST_GATES];
+        let mut out = [0; TABLE_WORDS * MOST_GATES];
         Refusal::of(raw::all_tables(&self.words[..], &mut out), &[])?;
-        let each = out.chunks(4).take(self.gate_count());
+        let each = out.chunks(TABLE_WORDS).take(self.gate_count());
         Ok(each.map(Tables::of).collect())
     }
 
@@ -160,10 +163,10 @@ pub(crate) fn filled(
 impl Tables {
     fn of(words: &[u64]) -> Tables {
         Tables {
-            sdc: words[0],
-            cdc: words[1],
-            full: words[2],
-            open: words[3],
+            sdc: [words[0], words[1]],
+            cdc: words[2],
+            full: words[3],
+            open: words[4],
         }
     }
 }

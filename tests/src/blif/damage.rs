@@ -127,12 +127,12 @@ pub const DAMAGES: [Damage; 38] = [
         lines[at].drain(1..kept);
         Some(())
     }),
-    of("five fan-ins", 3, five_fanins),
-    of("five fan-ins, one unknown", 18, |rng, lines| {
+    of("seven fan-ins", 3, seven_fanins),
+    of("seven fan-ins, one unknown", 18, |rng, lines| {
         let unknown = fresh(rng, lines);
-        five_fanins(rng, lines)?;
+        seven_fanins(rng, lines)?;
         let at = lines.len() - 2;
-        let fanin = rng.within(1, 5);
+        let fanin = rng.within(1, 7);
         lines[at][fanin] = unknown;
         Some(())
     }),

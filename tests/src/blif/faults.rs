@@ -74,14 +74,14 @@ pub fn more_names(rng: &mut Random, lines: &mut [Line], at: usize, count: usize)
     Some(())
 }
 
-/// A block before `.end` with five fan-ins, where there are as many signals.
-pub fn five_fanins(rng: &mut Random, lines: &mut Vec<Line>) -> Option<()> {
+/// A block before `.end` with seven fan-ins, where there are as many signals.
+pub fn seven_fanins(rng: &mut Random, lines: &mut Vec<Line>) -> Option<()> {
     let (end, own) = (lines.len() - 1, fresh(rng, lines));
     let mut fanins = known(lines, end);
-    while fanins.len() > 5 {
+    while fanins.len() > 7 {
         fanins.remove(rng.within(0, fanins.len() - 1));
     }
-    let full = fanins.len() == 5;
+    let full = fanins.len() == 7;
     let line = [vec![b".names".to_vec()], fanins, vec![own]].concat();
     full.then(|| lines.insert(end, line))
 }

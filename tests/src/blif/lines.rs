@@ -1,7 +1,7 @@
 //! Random texts: the lines of a network under any names and with any covers, and their free layout.
 
 use crate::random::Random;
-use crate::reference::{bit, Network};
+use crate::reference::{all_entries, bit, Network};
 
 pub type Word = Vec<u8>;
 pub type Line = Vec<Word>;
@@ -94,7 +94,7 @@ fn answered(row: &[u8]) -> u64 {
 
 /// A cover of ones or, where the table has some, of zeros; its rows may overlap and repeat, in any order.
 fn cover(rng: &mut Random, table: u64, k: usize) -> Vec<Line> {
-    let all = (1u64 << (1 << k)) - 1;
+    let all = all_entries(k);
     let zeros = table != all && rng.chance(2);
     let set = if zeros { all ^ table } else { table };
     let digit = if zeros { "0" } else { "1" };

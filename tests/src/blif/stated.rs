@@ -11,6 +11,11 @@ pub fn texts_stated(report: &mut Report) {
         let text = [HEAD, behind].concat();
         read(report, &text, (2, &[2], &[table]));
     }
+    for (behind, table) in SIX_FANINS {
+        let head = ".model t\n.inputs a b c d e f\n.outputs g\n.names a b c d e f g\n";
+        let text = [head, behind].concat();
+        read(report, &text, (6, &[6], &[table]));
+    }
     READ.iter().for_each(|row| read(report, row.0, row.1));
     refused(report);
     layouts(report);
@@ -33,15 +38,26 @@ const COVERS: [(&str, u64); 8] = [
     (".names a b f\n\n11 1\n# 00 0\n \n00 1\n.end\n", 0x9),
 ];
 
+/// The cover of a gate with six fan-ins: the table.
+const SIX_FANINS: [(&str, u64); 6] = [
+    ("111111 1\n.end\n", 0x8000000000000000),
+    ("000001 1\n.end\n", 0x0000000100000000),
+    ("-----1 1\n.end\n", 0xFFFFFFFF00000000),
+    ("0----- 0\n.end\n", 0xAAAAAAAAAAAAAAAA),
+    ("------ 1\n.end\n", 0xFFFFFFFFFFFFFFFF),
+    (".end\n", 0),
+];
+
 /// n, the outputs' signals and the tables.
 type Said<'a> = (u64, &'a [u64], &'a [u64]);
 
 #[rustfmt::skip]
-const READ: [(&str, Said); 5] = [
+const READ: [(&str, Said); 6] = [
     (".model vote\n.inputs s1 s2 s3 s4\n.outputs maj\n.names s1 s2 s3 s4 maj\n11-- 1\n1-1- 1\n1--1 1\n-11- 1\n-1-1 1\n--11 1\n11-- 1\n.end\n",
         (4, &[4], &[0xFEE8])),
     (".model t\n.inputs a b c\n.outputs x\n.names a b c nor3\n1-- 0\n-1- 0\n--1 0\n.names a b nand2\n11 0\n.names nor3 nand2 x\n00 0\n11 0\n.end\n",
         (3, &[5], &[0x1, 0x7, 0x6])),
+    (".model t\n.inputs a b c d e\n.outputs f\n.names a b c d e f\n----1 0\n1---- 0\n.end\n", (5, &[5], &[0x5555])),
     (KEYWORDS, KEYWORDS_SAID),
     // an output may be an input
     (".model t\n.inputs a b\n.outputs b f a\n.names b f\n0 1\n.end\n", (2, &[1, 2, 0], &[0x1])),
@@ -56,7 +72,7 @@ const KEYWORDS_SAID: Said = (4, &[3, 4], &[0x2]);
 fn read(report: &mut Report, text: &str, said: Said) {
     let case = Case::text(0, text.as_bytes());
     answered(report, &case, 0);
-    let mut lent = Lent::file(&case.file);
+    let mut lent = Lent::file(&Call::ReadBlif, &case.file);
     (RAW.run)(&Call::ReadBlif, &mut lent);
     let words = &lent.session;
     let outputs = &words[OUTPUTS..][..said.1.len()];
@@ -128,7 +144,7 @@ const MODELS: [&[u8]; 8] = [
 
 /// Whole texts.
 #[rustfmt::skip]
-const WHOLE: [(&[u8], u64); 24] = [
+const WHOLE: [(&[u8], u64); 26] = [
     // no line where one is due
     (b"", 17),
     (b"\n \t\r\n# .model\n", 17),
@@ -154,9 +170,11 @@ const WHOLE: [(&[u8], u64); 24] = [
     (b".model t\n.inputs a\n.outputs a b c d e f g h h\n", 18),
     (b".model t\n.inputs a\n.outputs a\n.end\n", 3),
     (b".model t\n.inputs a\n.outputs q\n.end\n", 18),
-    (b".model t\n.inputs a b c d e\n.outputs f\n.names a b c d e f\n", 3),
-    (b".model t\n.inputs a b c d e\n.outputs f\n.names a b c d e e f\n", 18),
-    (b".model t\n.inputs a b c d e\n.outputs f\n.names a b c d q f\n", 18),
+    (b".model t\n.inputs a b c d e g h\n.outputs f\n.names a b c d e g h f\n", 3),
+    (b".model t\n.inputs a b c d e g h\n.outputs f\n.names a b c d e g h h f\n", 18),
+    (b".model t\n.inputs a b c d e g h\n.outputs f\n.names a b c d e g q f\n", 18),
+    (b".model t\n.inputs a b c d e g\n.outputs f\n.names a b c d e g f\n11111 1\n", 17),
+    (b".model t\n.inputs a b c d e g\n.outputs f\n.names a b c d e g f\n1111111 1\n", 17),
 ];
 
 fn refused(report: &mut Report) {

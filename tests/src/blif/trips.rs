@@ -3,6 +3,7 @@
 use super::compare_text;
 use crate::call::{Call, Lent, Way, MOST_BLIF};
 use crate::engine::{BINDING, RAW};
+use crate::networks::{require_arities, see_counts};
 use crate::random::{self, Random};
 use crate::reference::{outgoing, Network, State, WORDS};
 use crate::report::{Case, Report};
@@ -16,6 +17,7 @@ pub fn trips(report: &mut Report, seed: u64, cases: usize) {
         out(report, &Case::new(i, &file), &words);
     });
     report.require_answers([0, 3]);
+    require_arities(report);
     for what in [
         "no copy",
         "all outputs copied",
@@ -46,7 +48,7 @@ fn network(rng: &mut Random, case: usize) -> Vec<u8> {
 
 /// The session after a load and some exchanges, as the library runs them.
 fn exchanged(rng: &mut Random, file: &[u8]) -> Vec<u64> {
-    let mut lent = Lent::file(file);
+    let mut lent = Lent::file(&Call::Load, file);
     (RAW.run)(&Call::Load, &mut lent);
     let fresh = State::read(&lent.session).expect("a random network loads");
     let count = rng.within(0, 20);
@@ -75,7 +77,8 @@ fn out(report: &mut Report, case: &Case, words: &[u64]) {
     let sent = outgoing(&now);
     see(report, &now, &sent);
     if sent.m() <= 40 {
-        let lent = Lent::session(words);
+        see_counts(report, &now);
+        let lent = Lent::session(&Call::WriteBlif, words);
         let text = written(report, case, &lent, 0);
         back(report, case, &now, &text);
         return;
@@ -102,14 +105,14 @@ fn written(report: &mut Report, case: &Case, lent: &Lent, due: u64) -> Vec<u8> {
 /// Read again, the network has all that it had; written again, it is the same text.
 fn back(report: &mut Report, case: &Case, now: &Network, text: &[u8]) {
     compare_text(report, &Case::text(case.number, text));
-    let mut read = Lent::file(text);
+    let mut read = Lent::file(&Call::ReadBlif, text);
     (RAW.run)(&Call::ReadBlif, &mut read);
     let lost = match State::read(&read.session) {
         Ok(state) => lost(now, &state.loaded),
         Err(number) => Some(format!("{number}: what was written does not read")),
     };
     report.count(case.size(), lost.map(|d| format!("{case}{d}")));
-    let mut again = Lent::session(&read.session);
+    let mut again = Lent::session(&Call::WriteBlif, &read.session);
     (RAW.run)(&Call::WriteBlif, &mut again);
     let wrong = !again.bytes.starts_with(text) || again.out[0] != text.len() as u64;
     let text = || format!("{case}written again, another text");

@@ -6,6 +6,7 @@ use crate::engine::{BINDING, RAW};
 use crate::files::{loaded, TWIN};
 use crate::reference::WORDS;
 use crate::report::{Case, Report};
+use crate::wide::OR_SIX;
 
 pub fn written_stated(report: &mut Report) {
     twin(report);
@@ -19,13 +20,21 @@ pub fn written_stated(report: &mut Report) {
     let session = loaded(report, one);
     written(report, "one gate", &session, 50, text);
     crowded(report);
+    six_fanins(report);
+    longest(report);
     board(report);
 }
 
-/// A session that goes out as so many bytes that begin like this.
-fn written(report: &mut Report, what: &str, session: &[u64], length: usize, begin: &str) {
+/// A session that goes out as so many bytes that begin like this. Gives the text.
+fn written(
+    report: &mut Report,
+    what: &str,
+    session: &[u64],
+    length: usize,
+    begin: &str,
+) -> Vec<u8> {
     let case = Case::new(0, &[]).after(what);
-    let lent = Lent::session(session);
+    let lent = Lent::session(&Call::WriteBlif, session);
     let (number, after) = report.compare(&[RAW, BINDING], &Call::WriteBlif, &lent, &case);
     let text = &after.bytes[..after.out[0].min(after.bytes.len() as u64) as usize];
     let wrong = number != 0 || text.len() != length || !text.starts_with(begin.as_bytes());
@@ -40,6 +49,7 @@ fn written(report: &mut Report, what: &str, session: &[u64], length: usize, begi
     if number == 0 {
         compare_text(report, &Case::text(0, text).after(what));
     }
+    text.to_vec()
 }
 
 /// The twin network; the current tables go out, and the constant 0 has no row.
@@ -52,7 +62,7 @@ fn twin(report: &mut Report) {
     let text = format!("{head}1 1\n{rest}");
     written(report, "the twin network", &fresh, 102, &text);
     let exchange = Call::Exchange { gate: 1, table: 0 };
-    let lent = Lent::session(&fresh);
+    let lent = Lent::session(&exchange, &fresh);
     let (_, after) = report.compare(&[RAW, BINDING], &exchange, &lent, &Case::new(0, &TWIN));
     let text = format!("{head}{rest}");
     written(report, "gate 1 set to 0", &after.session, 98, &text);
@@ -94,18 +104,54 @@ fn crowded(report: &mut Report) {
     }
 }
 
+/// The table of the gate with six fan-ins has 63 ones. The text comes back as the same session.
+fn six_fanins(report: &mut Report) {
+    let copies = (1..=6).map(|signal| format!(".names s0 s{signal}\n1 1\n"));
+    let copies: String = copies.collect();
+    let begin = format!(
+        ".model s\n.inputs s0\n.outputs s7\n{copies}\
+         .names s1 s2 s3 s4 s5 s6 s7\n100000 1\n010000 1\n110000 1\n001000 1\n"
+    );
+    let session = loaded(report, OR_SIX);
+    let text = written(report, "six fan-ins", &session, 734, &begin);
+    let lines = text.split(|&b| b == b'\n');
+    let rows = lines.filter(|line| line.len() == 8 && line.ends_with(b" 1"));
+    report.require("63 rows", rows.count() == 63);
+    reads_as(report, &text, &session);
+}
+
+/// As many gates, rows and bytes of names as can be: each gate is constant 1 over the six signals before it.
+pub fn longest_in_blif() -> Vec<u8> {
+    let fanins = |first: u8| (first..first + 6).collect::<Vec<u8>>();
+    let gate = |first| [b"NH\x06", &fanins(first)[..], &[0xFF; 8]].concat();
+    let gates: Vec<u8> = (4..44).flat_map(gate).collect();
+    let outputs: Vec<u8> = (42..50).flat_map(|signal| [b'N', b'O', signal]).collect();
+    [b"NI\x0A\x28\x08", &gates[..], &outputs].concat()
+}
+
+fn longest(report: &mut Report) {
+    let session = loaded(report, &longest_in_blif());
+    let text = written(report, "the longest text", &session, 24512, ".model s\n");
+    reads_as(report, &text, &session);
+}
+
+/// The text is this session, word for word.
+fn reads_as(report: &mut Report, text: &[u8], session: &[u64]) {
+    let case = Case::text(0, text);
+    answered(report, &case, 0);
+    let mut read = Lent::file(&Call::ReadBlif, text);
+    (RAW.run)(&Call::ReadBlif, &mut read);
+    let wrong = read.session != session;
+    let text = || format!("{case}it is another network");
+    report.count(case.size(), wrong.then(text));
+}
+
 pub const BOARD: &[u8] = include_bytes!("../../../examples/board.net");
 pub const BOARD_BLIF: &[u8] = include_bytes!("../../../examples/board.blif");
 
-/// The example as a file and as a text is the same session, word for word.
+/// The example as a file and as a text.
 fn board(report: &mut Report) {
     let session = loaded(report, BOARD);
     written(report, "the board", &session, 483, ".model s\n");
-    let case = Case::text(0, BOARD_BLIF);
-    answered(report, &case, 0);
-    let mut read = Lent::file(BOARD_BLIF);
-    (RAW.run)(&Call::ReadBlif, &mut read);
-    let wrong = read.session != session;
-    let text = || format!("{case}it is another board");
-    report.count(case.size(), wrong.then(text));
+    reads_as(report, BOARD_BLIF, &session);
 }

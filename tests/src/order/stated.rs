@@ -6,7 +6,7 @@ use crate::reference::{REASONS, USAGE};
 use crate::report::{Case, Report};
 
 pub const OPEN: &str = "yes: open, also together with any other order open on this board\n";
-const ALONE: &str = "yes: alone, with no other order; ask the next on the changed board\n";
+pub const ALONE: &str = "yes: alone, with no other order; ask the next on the changed board\n";
 const TOO_LONG: &str = "the order is too long\n";
 
 const HELP: &str = "\
@@ -22,7 +22,7 @@ board to NEW, a new file: ask the next order on that one.
 The gates marked open may get their tables even after a no, all of them.
 ";
 
-fn named<const N: usize>(files: [(&str, Vec<u8>); N]) -> Files {
+pub fn named<const N: usize>(files: [(&str, Vec<u8>); N]) -> Files {
     files.map(|(name, bytes)| (name.to_string(), bytes)).into()
 }
 
@@ -55,8 +55,8 @@ fn refused_files() -> Files {
 }
 
 /// Runs in one folder.
-struct Desk<'a> {
-    report: &'a mut Report,
+pub struct Desk<'a> {
+    pub report: &'a mut Report,
     files: Files,
     folder: Folder,
 }
@@ -64,12 +64,7 @@ struct Desk<'a> {
 pub fn stated(report: &mut Report) {
     let mut files = boards();
     files.extend(refused_files());
-    let folder = Folder::new("stated", &files);
-    let mut desk = Desk {
-        report,
-        files,
-        folder,
-    };
+    let mut desk = Desk::new(report, files);
     desk.answers();
     desk.refusals();
     desk.no_pairs();
@@ -79,6 +74,15 @@ pub fn stated(report: &mut Report) {
 }
 
 impl Desk<'_> {
+    pub fn new(report: &mut Report, files: Files) -> Desk<'_> {
+        let folder = Folder::new("stated", &files);
+        Desk {
+            report,
+            files,
+            folder,
+        }
+    }
+
     fn run(&mut self, words: &[Word], out: &str, err: impl AsRef<[u8]>) {
         let want = Outcome {
             out: word(out),
@@ -90,7 +94,7 @@ impl Desk<'_> {
     }
 
     /// An order that has an answer, which the enumeration gives too.
-    fn answered(&mut self, board: &str, order: &[&str], out: &str) {
+    pub fn answered(&mut self, board: &str, order: &[&str], out: &str) {
         let order = words(order);
         self.run(&command(board, &order, None), out, "");
         let text = due(&self.files, board, &order, None).out;
@@ -100,7 +104,7 @@ impl Desk<'_> {
     }
 
     /// Words that get no answer.
-    fn told(&mut self, words: &[Word], err: impl AsRef<[u8]>) {
+    pub fn told(&mut self, words: &[Word], err: impl AsRef<[u8]>) {
         self.run(words, "", err);
     }
 

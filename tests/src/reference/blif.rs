@@ -111,7 +111,7 @@ impl<'a> Blocks<'a> {
         let (own, fanins) = names.split_last().ok_or(3u64)?;
         let signals = self.find(fanins)?;
         demand(!self.signals.contains_key(own) && !repeats(names), 18)?;
-        demand((1..=4).contains(&fanins.len()), 3)?;
+        demand((1..=6).contains(&fanins.len()), 3)?;
         demand(self.blocks.len() < 40, 3)?;
         self.signals.insert(own, self.signals.len());
         self.blocks.push(Block {

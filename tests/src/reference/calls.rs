@@ -3,7 +3,7 @@
 use super::blif::{read_blif, write_blif};
 use super::file::{demand, load, write};
 use super::listing::listing;
-use super::network::{bit, words_of, Network};
+use super::network::{bit, fits, words_of, Network};
 use super::state::{State, CURRENT};
 use crate::call::{Call, Lent};
 
@@ -37,15 +37,15 @@ fn fresh_into(lent: &mut Lent, read: fn(&[u8]) -> Result<Network, u64>) -> Resul
     lay(&mut lent.session, &State::fresh(network).words())
 }
 
-/// SDC, CDC, full and open.
-fn tables_of(s: &State, g: usize) -> [u64; 4] {
-    let now = &s.current;
-    [now.sdc(g), now.cdc(g), now.full(g), s.open[g]]
+/// SDC in two words, CDC, full and open.
+fn tables_of(s: &State, g: usize) -> [u64; 5] {
+    let (now, [low, high]) = (&s.current, s.current.sdc(g));
+    [low, high, now.cdc(g), now.full(g), s.open[g]]
 }
 
 fn tables(lent: &mut Lent, gate: usize) -> Result<(), u64> {
     let s = State::read(&lent.session)?;
-    demand(lent.out.len() >= 4, 9)?;
+    demand(lent.out.len() >= 5, 9)?;
     let g = s.place(gate)?;
     lay(&mut lent.out, &tables_of(&s, g))
 }
@@ -53,7 +53,7 @@ fn tables(lent: &mut Lent, gate: usize) -> Result<(), u64> {
 fn all_tables(lent: &mut Lent) -> Result<(), u64> {
     let s = State::read(&lent.session)?;
     let m = s.loaded.m();
-    demand(lent.out.len() >= 4 * m, 9)?;
+    demand(lent.out.len() >= 5 * m, 9)?;
     let words: Vec<u64> = (0..m).flat_map(|g| tables_of(&s, g)).collect();
     lay(&mut lent.out, &words)
 }
@@ -82,8 +82,8 @@ fn hidden(lent: &mut Lent) -> Result<(), u64> {
 }
 
 /// 12: the table has a bit past 2^k.
-fn fits(s: &State, g: usize, table: u64) -> Result<(), u64> {
-    demand(table >> s.loaded.entries(g) == 0, 12)
+fn width_test(s: &State, g: usize, table: u64) -> Result<(), u64> {
+    demand(fits(table, s.loaded.fanins[g].len()), 12)
 }
 
 /// 15; then the pairs in order, each 11, 16 and 12; then the harm with all of them in place.
@@ -95,7 +95,7 @@ fn verdict(lent: &mut Lent, gates: &[u64], tables: &[u64]) -> Result<(), u64> {
     for i in 0..gates.len() {
         let g = s.place(gates[i] as usize)?;
         demand(!gates[..i].contains(&gates[i]), 16)?;
-        fits(&s, g, tables[i])?;
+        width_test(&s, g, tables[i])?;
         replaced.tables[g] = tables[i];
     }
     if let Some((pattern, output)) = s.loaded.harm(&replaced) {
@@ -109,7 +109,7 @@ fn exchange(lent: &mut Lent, gate: usize, table: u64) -> Result<(), u64> {
     let s = State::read(&lent.session)?;
     demand(!lent.out.is_empty(), 9)?;
     let g = s.place(gate)?;
-    fits(&s, g, table)?;
+    width_test(&s, g, table)?;
     for t in 0..s.loaded.entries(g) {
         let altered = bit(table, t) != bit(s.loaded.tables[g], t);
         if altered && !bit(s.open[g], t) {

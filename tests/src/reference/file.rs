@@ -1,13 +1,13 @@
 //! Network files: what load answers, and what write lays down.
 
-use super::network::Network;
+use super::network::{fits, Network};
 
 /// The bytes that are left of a file.
-struct Bytes<'a>(&'a [u8]);
+pub struct Bytes<'a>(&'a [u8]);
 
 impl Bytes<'_> {
     /// 1 where fewer are left.
-    fn take(&mut self, count: usize) -> Result<&[u8], u64> {
+    pub fn take(&mut self, count: usize) -> Result<&[u8], u64> {
         if self.0.len() < count {
             return Err(1);
         }
@@ -17,7 +17,7 @@ impl Bytes<'_> {
     }
 
     /// 1 where under two bytes are left, else 2 where another mark is due.
-    fn mark(&mut self, due: &[u8; 2]) -> Result<(), u64> {
+    pub fn mark(&mut self, due: &[u8; 2]) -> Result<(), u64> {
         if self.take(2)? == due {
             Ok(())
         } else {
@@ -35,8 +35,19 @@ pub fn demand(condition: bool, refusal: u64) -> Result<(), u64> {
     }
 }
 
+/// The fan-ins and the table of a gate.
+pub type Gate = (Vec<usize>, u64);
+
 /// What load answers: the network, or the refusal.
 pub fn load(file: &[u8]) -> Result<Network, u64> {
+    load_by(gate, file)
+}
+
+/// Load, with each gate's record read in this way; the gate has so many signals before it.
+pub fn load_by(
+    gate: fn(&mut Bytes, usize) -> Result<Gate, u64>,
+    file: &[u8],
+) -> Result<Network, u64> {
     let mut bytes = Bytes(file);
     bytes.mark(b"NI")?;
     let head = bytes.take(3)?;
@@ -74,21 +85,31 @@ fn excluded(bytes: &mut Bytes, patterns: usize) -> Result<Vec<bool>, u64> {
     Ok(all)
 }
 
-/// A gate with `earlier` signals before it.
-fn gate(bytes: &mut Bytes, earlier: usize) -> Result<(Vec<usize>, u64), u64> {
-    bytes.mark(b"NG")?;
+/// A gate's record: up to four fan-ins and a table of two bytes, or, by the other mark, more and eight.
+fn gate(bytes: &mut Bytes, earlier: usize) -> Result<Gate, u64> {
+    let (counts, width) = match bytes.take(2)? {
+        b"NG" => (1..=4, 2),
+        b"NH" => (5..=6, 8),
+        _ => return Err(2),
+    };
     let k = bytes.take(1)?[0] as usize;
-    demand((1..=4).contains(&k), 3)?;
-    let rest = bytes.take(k + 2)?;
+    demand(counts.contains(&k), 3)?;
+    let (signals, table) = bytes.take(k + width)?.split_at(k);
+    let fanins = fanins(signals, earlier)?;
+    let table = table.iter().rev().fold(0, |t, &byte| 256 * t + byte as u64);
+    demand(fits(table, k), 6)?;
+    Ok((fanins, table))
+}
+
+/// Each an earlier signal, and none twice.
+pub fn fanins(signals: &[u8], earlier: usize) -> Result<Vec<usize>, u64> {
     let mut fanins = Vec::new();
-    for &f in &rest[..k] {
+    for &f in signals {
         demand((f as usize) < earlier, 4)?;
         demand(!fanins.contains(&(f as usize)), 5)?;
         fanins.push(f as usize);
     }
-    let table = rest[k] as u64 + 256 * rest[k + 1] as u64;
-    demand(table >> (1 << k) == 0, 6)?;
-    Ok((fanins, table))
+    Ok(fanins)
 }
 
 /// An output of a network with so many signals.
@@ -101,6 +122,11 @@ fn output(bytes: &mut Bytes, signals: usize) -> Result<usize, u64> {
 
 /// The file of a network.
 pub fn write(s: &Network) -> Vec<u8> {
+    write_by(gate_record, s)
+}
+
+/// The file, with each gate's record written in this way.
+pub fn write_by(gate_record: fn(&[usize], u64) -> Vec<u8>, s: &Network) -> Vec<u8> {
     let head = [0x4E, 0x49, s.n as u8, s.m() as u8, s.outputs.len() as u8];
     let gates = s.fanins.iter().zip(&s.tables);
     let gates = gates.flat_map(|(fanins, &table)| gate_record(fanins, table));
@@ -129,7 +155,12 @@ fn excluded_record(set: &[bool]) -> Vec<u8> {
 }
 
 fn gate_record(fanins: &[usize], table: u64) -> Vec<u8> {
+    let (mark, width) = if fanins.len() <= 4 {
+        (0x47, 2)
+    } else {
+        (0x48, 8)
+    };
     let signals: Vec<u8> = fanins.iter().map(|&f| f as u8).collect();
-    let table = [(table % 256) as u8, (table / 256) as u8];
-    [&[0x4E, 0x47, fanins.len() as u8], &signals[..], &table].concat()
+    let table = &table.to_le_bytes()[..width];
+    [&[0x4E, mark, fanins.len() as u8], &signals[..], table].concat()
 }

@@ -14,6 +14,16 @@ pub fn bit(x: u64, i: usize) -> bool {
     x >> i & 1 == 1
 }
 
+/// All entries of a table with k fan-ins; of six these are all 64 bits.
+pub fn all_entries(k: usize) -> u64 {
+    u64::MAX >> (64 - (1 << k))
+}
+
+/// No bit is set past 2^k.
+pub fn fits(table: u64, k: usize) -> bool {
+    table & !all_entries(k) == 0
+}
+
 /// A set of patterns as words of 64, the spare bits zero.
 pub fn words_of(set: &[bool]) -> Vec<u64> {
     let word = |part: &[bool]| {
@@ -32,6 +42,11 @@ impl Network {
         1 << self.n
     }
 
+    /// Some gate has more than four fan-ins.
+    pub fn is_wide(&self) -> bool {
+        self.fanins.iter().any(|f| f.len() > 4)
+    }
+
     /// The entries of gate g's table.
     pub fn entries(&self, g: usize) -> usize {
         1 << self.fanins[g].len()
@@ -39,13 +54,8 @@ impl Network {
 
     /// The entry of gate g that the values give.
     pub fn entry(&self, values: &[bool], g: usize) -> usize {
-        let mut t = 0;
-        for (r, &f) in self.fanins[g].iter().enumerate() {
-            if values[f] {
-                t += 1 << r;
-            }
-        }
-        t
+        let fanins = self.fanins[g].iter().enumerate();
+        fanins.map(|(r, &f)| (values[f] as usize) << r).sum()
     }
 
     /// The values of all signals at the pattern x; the gate `inverted` counts the other way round.

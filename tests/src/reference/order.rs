@@ -1,7 +1,8 @@
 //! What the desk's program answers to an order: its text parsed, the first line and a line for each pair, and the new board.
 
 use super::file::{demand, load, write};
-use super::network::{bit, Network};
+use super::listing::digits;
+use super::network::{bit, fits, Network};
 
 pub const USAGE: &str = "usage: order BOARD GATE=TABLE... [-o NEW]\n";
 
@@ -73,7 +74,7 @@ fn places(s: &Network, pairs: &[Pair]) -> Result<Vec<usize>, String> {
         let twice = |_| format!("refused 16: gate {gate} is named twice\n");
         demand(!places.contains(&g), 16).map_err(twice)?;
         let wide = |_| format!("refused 12: the table of gate {gate} is too wide\n");
-        demand(table >> s.entries(g) == 0, 12).map_err(wide)?;
+        demand(fits(*table, s.fanins[g].len()), 12).map_err(wide)?;
         places.push(g);
     }
     Ok(places)
@@ -88,14 +89,14 @@ fn judged(file: &[u8], pairs: &[Pair]) -> Result<(String, Option<Vec<u8>>), Stri
     let reason = |k: u64| format!("refused {k}: {}\n", REASONS[k as usize - 1]);
     let s = load(file).map_err(reason)?;
     let places = places(&s, pairs)?;
-    let (mut changed, open) = (s.clone(), s.open_tables());
+    let (mut changed, open, width) = (s.clone(), s.open_tables(), digits(&s));
     let (mut lines, mut all_open) = (String::new(), true);
     for (Pair { gate, table }, g) in pairs.iter().zip(places) {
         let old = s.tables[g];
         let closed = |&t: &usize| bit(*table, t) != bit(old, t) && !bit(open[g], t);
         let entry = (0..s.entries(g)).find(closed);
         let standing = entry.map_or("open".into(), |t| format!("entry {t} is closed"));
-        lines += &format!("gate {gate} from {old:04x} to {table:04x}: {standing}\n");
+        lines += &format!("gate {gate} from {old:0width$x} to {table:0width$x}: {standing}\n");
         all_open = all_open && entry.is_none();
         changed.tables[g] = *table;
     }

@@ -10,13 +10,14 @@ fn table(size: usize, chosen: impl Fn(usize) -> bool) -> u64 {
 }
 
 impl Network {
-    /// 1. SDC.
-    pub fn sdc(&self, g: usize) -> u64 {
+    /// 1. SDC, as request Five has it: in two words, lower entries first.
+    pub fn sdc(&self, g: usize) -> [u64; 2] {
         let entries = self.entries(g);
-        table(2 * entries, |e| {
+        let set = |e: usize| {
             let (t, o) = (e % entries, e / entries == 1);
-            o != bit(self.tables[g], t)
-        })
+            e < 2 * entries && o != bit(self.tables[g], t)
+        };
+        [table(64, set), table(64, |e| set(64 + e))]
     }
 
     /// The entry of gate g that comes at each pattern.
@@ -50,44 +51,50 @@ impl Network {
 
     /// 5. H of all gates: `[gate][pattern]`.
     pub fn compatible(&self) -> Vec<Vec<bool>> {
+        let free: Vec<_> = (0..self.m()).map(|g| self.free_at_entries(g)).collect();
         let by_pattern: Vec<Vec<bool>> = (0..self.patterns())
-            .map(|x| self.compatible_at(x))
+            .map(|x| self.compatible_at(x, &free))
             .collect();
         (0..self.m())
             .map(|g| by_pattern.iter().map(|h| h[g]).collect())
             .collect()
     }
 
-    /// Which gates' H hold the pattern x.
-    fn compatible_at(&self, x: usize) -> Vec<bool> {
+    /// Which gates' H hold the pattern x; `free[gate][entry]` are the fan-ins that are free there.
+    fn compatible_at(&self, x: usize, free: &[Vec<u64>]) -> Vec<bool> {
         let values = self.values(x, None);
         let named = |s: usize| self.outputs.contains(&s);
         let mut h: Vec<bool> = (0..self.n + self.m())
             .map(|s| !named(s) || self.excluded[x])
             .collect();
         for g in (0..self.m()).rev() {
-            self.take_edges(g, self.entry(&values, g), &mut h);
+            self.take_edges(g, free[g][self.entry(&values, g)], &mut h);
         }
         h[self.n..].to_vec()
     }
 
-    /// Intersects the sets of gate g's fan-ins with their edge sets, at a pattern that gives the entry t.
-    fn take_edges(&self, g: usize, t: usize, h: &mut [bool]) {
-        let (own, free) = (h[self.n + g], self.free(g, t));
-        for (&f, free) in self.fanins[g].iter().zip(free) {
-            h[f] = h[f] && (own || free);
+    /// Intersects the sets of gate g's fan-ins with their edge sets, at a pattern where these are free.
+    fn take_edges(&self, g: usize, free: u64, h: &mut [bool]) {
+        let own = h[self.n + g];
+        for (r, &f) in self.fanins[g].iter().enumerate() {
+            h[f] = h[f] && (own || bit(free, r));
         }
     }
 
-    /// 6. The fan-ins that are free at the entry t of gate g, where its value counts.
-    fn free(&self, g: usize, t: usize) -> Vec<bool> {
-        let k = self.fanins[g].len();
-        let value = bit(self.tables[g], t);
-        let mut free = vec![false; k];
-        for r in 0..k {
-            free[r] = true;
-            let held = |u: usize| (0..k).all(|q| free[q] || (u >> q & 1) == (t >> q & 1));
-            free[r] = (0..1usize << k).all(|u| !held(u) || bit(self.tables[g], u) == value);
+    fn free_at_entries(&self, g: usize) -> Vec<u64> {
+        (0..self.entries(g)).map(|t| self.free(g, t)).collect()
+    }
+
+    /// 6. The fan-ins that are free at the entry t of gate g, where its value counts: fan-in r at bit r.
+    fn free(&self, g: usize, t: usize) -> u64 {
+        let value = |entry| bit(self.tables[g], entry);
+        let mut free = 0;
+        for r in 0..self.fanins[g].len() {
+            let others = !(free | 1 << r);
+            let held = |u: usize| (u ^ t) as u64 & others == 0;
+            if (0..self.entries(g)).all(|u| !held(u) || value(u) == value(t)) {
+                free |= 1 << r;
+            }
         }
         free
     }

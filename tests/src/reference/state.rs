@@ -1,7 +1,7 @@
 //! The state that a session's words hold, and the test of words made by hand (10).
 
 use super::file::demand;
-use super::network::{words_of, Network};
+use super::network::{fits, words_of, Network};
 
 // where each field of a session begins
 pub const ARITY: usize = 3;
@@ -101,7 +101,7 @@ fn filled(words: &[u64], length: usize) -> Vec<u64> {
 
 fn fanins_of(words: &[u64], g: usize, earlier: usize) -> Result<Vec<usize>, u64> {
     let k = words[ARITY + g] as usize;
-    demand((1..=4).contains(&k), 10)?;
+    demand((1..=6).contains(&k), 10)?;
     let mut fanins = Vec::new();
     for r in 0..k {
         let f = words[FANINS + 6 * g + r] as usize;
@@ -121,7 +121,7 @@ fn excluded_of(words: &[u64], patterns: usize) -> Result<Vec<bool>, u64> {
 
 fn tables_of(words: &[u64], at: usize, fanins: &[Vec<usize>]) -> Result<Vec<u64>, u64> {
     let tables = words[at..at + fanins.len()].to_vec();
-    let fits = |(table, list): (&u64, &Vec<usize>)| table >> (1 << list.len()) == 0;
-    demand(tables.iter().zip(fanins).all(fits), 10)?;
+    let mut gates = tables.iter().zip(fanins);
+    demand(gates.all(|(&table, list)| fits(table, list.len())), 10)?;
     Ok(tables)
 }
