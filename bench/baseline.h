@@ -4,17 +4,17 @@
 #include <stddef.h>
 #include <stdint.h>
 
-enum { GATES = 40, INPUTS = 10, SIGNALS = 50, OUTPUTS = 8, FANINS = 4, WORDS = 16, MOST_BLIF = 5663 };
+enum { GATES = 40, INPUTS = 10, SIGNALS = 50, OUTPUTS = 8, FANINS = 6, WORDS = 16, MOST_FILE = 839, MOST_BLIF = 24543 };
 
 typedef struct {
     int n, m, p;
-    int arity[GATES], fanins[GATES][FANINS], outputs[OUTPUTS];
-    unsigned tables[GATES];
+    uint8_t arity[GATES], fanins[GATES][FANINS], outputs[OUTPUTS];
+    uint64_t tables[GATES];
     uint64_t excluded[WORDS]; /* a one means the pattern never comes */
 } Network;
 
 typedef struct {
-    unsigned cdc[GATES], full[GATES], open[GATES];
+    uint64_t cdc[GATES], full[GATES], open[GATES];
     uint64_t odc[GATES][WORDS], hidden[GATES][WORDS];
 } Sets;
 
@@ -39,6 +39,9 @@ extern const Baseline PLAIN, TUNED;
 /* 0, or one of the refusals 1 to 8 */
 int parse(const uint8_t *file, size_t size, Network *net);
 
+/* puts the file, for which MOST_FILE bytes are enough, and gives its length */
+size_t print(const Network *net, uint8_t *file);
+
 /* 0, or 17, 18 or 3 by the first line at fault */
 int parse_blif(const uint8_t *text, size_t size, Network *net);
 
@@ -52,7 +55,17 @@ int handful_test(const Network *loaded, const Network *current, const Handful *h
 /* sets a gate's table in `current`, with the tests 10 to 13 */
 Answer exchange(const Network *loaded, Network *current, const Sets *sets, uint64_t gate, uint64_t table);
 
-static inline unsigned all_entries(int k) { return (1u << (1 << k)) - 1; }
+/* the values of inputs 0 to 5 at 64 patterns, and so the entries at which fan-ins 0 to 5 are one */
+static const uint64_t INPUT[6] = {0xAAAAAAAAAAAAAAAA, 0xCCCCCCCCCCCCCCCC, 0xF0F0F0F0F0F0F0F0,
+                                  0xFF00FF00FF00FF00, 0xFFFF0000FFFF0000, 0xFFFFFFFF00000000};
+
+#define BIT(i) ((uint64_t)1 << (i))
+
+/* the 2^k entries of k fan-ins, up to 6 */
+static inline uint64_t all_entries(int k) {
+    static const uint64_t ALL[FANINS + 1] = {1, 3, 0xF, 0xFF, 0xFFFF, 0xFFFFFFFF, ~(uint64_t)0};
+    return ALL[k];
+}
 static inline int word_count(int n) { return n < 6 ? 1 : 1 << (n - 6); }
-static inline uint64_t live_places(int n) { return n < 6 ? ((uint64_t)1 << (1 << n)) - 1 : ~(uint64_t)0; }
+static inline uint64_t live_places(int n) { return all_entries(n < 6 ? n : 6); }
 #endif

@@ -95,26 +95,25 @@ static int parse_block(Span line, Network *net, Span *signals) {
     Span w = next_word(&line);
     for (Span next = next_word(&line); length(next); w = next, next = next_word(&line)) {
         if (k == FANINS) return 3;
-        net->fanins[net->m][k++] = place(signals, known, w);
+        net->fanins[net->m][k++] = (uint8_t)place(signals, known, w);
     }
     if (!k || net->m == GATES) return 3;
     signals[known] = w;
-    net->arity[net->m++] = k;
+    net->arity[net->m++] = (uint8_t)k;
     return 0;
 }
 
 /* a row of the last block, whose earlier rows have this digit, or 0 where there is none */
 static int parse_row(Span marks, Span line, Network *net, int *digit) {
-    static const unsigned ONES[FANINS] = {0xAAAA, 0xCCCC, 0xF0F0, 0xFF00};
     Span value = next_word(&line);
     if (!net->m || length(next_word(&line)) || length(value) != 1) return 17;
     int g = net->m - 1, k = net->arity[g], d = *value.at;
     if ((d != '0' && d != '1') || (*digit && *digit != d) || length(marks) != (size_t)k) return 17;
-    unsigned row = all_entries(k);
+    uint64_t row = all_entries(k);
     for (int r = 0; r < k; r++) {
         uint8_t b = marks.at[r];
         if (b != '0' && b != '1' && b != '-') return 17;
-        if (b != '-') row &= b == '1' ? ONES[r] : ~ONES[r];
+        if (b != '-') row &= b == '1' ? INPUT[r] : ~INPUT[r];
     }
     if (!*digit && d == '0') net->tables[g] = all_entries(k);
     if (d == '1') net->tables[g] |= row;
@@ -146,7 +145,7 @@ int parse_blif(const uint8_t *bytes, size_t size, Network *net) {
     if (fault) return fault;
     if (length(next_word(&line))) return 17;
     for (int i = 0; i < net->p; i++)
-        if ((net->outputs[i] = place(signals, net->n + net->m, outputs[i])) == net->n + net->m) return 18;
+        if ((net->outputs[i] = (uint8_t)place(signals, net->n + net->m, outputs[i])) == net->n + net->m) return 18;
     if (!net->m) return 3;
     return next_line(&text, &line, &first) ? 17 : 0;
 }
@@ -168,11 +167,12 @@ static uint8_t *put_name(uint8_t *at, int signal) {
 
 static uint8_t *put_block(uint8_t *at, const Network *net, int g) {
     int k = net->arity[g];
+    uint64_t table = net->tables[g];
     at = put(at, ".names");
     for (int r = 0; r < k; r++) at = put_name(at, net->fanins[g][r]);
     at = put(put_name(at, net->n + g), "\n");
-    for (int t = 0; t < 1 << k; t++) {
-        if (!(net->tables[g] >> t & 1)) continue;
+    for (uint64_t left = table; left; left &= left - 1) {
+        int t = __builtin_ctzll(left);
         for (int r = 0; r < k; r++) *at++ = (uint8_t)('0' + (t >> r & 1));
         at = put(at, " 1\n");
     }
@@ -183,11 +183,12 @@ static uint8_t *put_block(uint8_t *at, const Network *net, int g) {
 static int add_copies(const Network *net, Network *out) {
     *out = *net;
     for (int i = 0; i < net->p; i++) {
-        int signal = net->outputs[i], copied = signal < net->n;
+        uint8_t signal = net->outputs[i];
+        int copied = signal < net->n;
         for (int j = 0; j < i; j++) copied |= net->outputs[j] == signal;
         if (!copied) continue;
         if (out->m == GATES) return 0;
-        out->outputs[i] = out->n + out->m;
+        out->outputs[i] = (uint8_t)(out->n + out->m);
         out->arity[out->m] = 1, out->fanins[out->m][0] = signal, out->tables[out->m++] = 2;
     }
     return 1;

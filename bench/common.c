@@ -1,13 +1,15 @@
-/* What both baselines share: the file, the tests of a state and of a handful of gates, the exchange. */
+/* What both baselines share: the file in and out, the tests of a state and of a handful of gates, the exchange. */
 #include "baseline.h"
 
 static int gate_fault(const Network *net, int g) {
     int k = net->arity[g];
     if (k < 1 || FANINS < k) return 3;
+    uint64_t listed = 0;
     for (int r = 0; r < k; r++) {
         if (net->fanins[g][r] >= net->n + g) return 4;
-        for (int q = 0; q < r; q++)
-            if (net->fanins[g][q] == net->fanins[g][r]) return 5;
+        uint64_t place = BIT(net->fanins[g][r]);
+        if (listed & place) return 5;
+        listed |= place;
     }
     return net->tables[g] & ~all_entries(k) ? 6 : 0;
 }
@@ -31,37 +33,59 @@ static int state_fault(const Network *net) {
     return 0;
 }
 
+/* ## The file */
+
+/* a gate's record: the second byte of its mark, the bounds of k, the bytes of its table */
+typedef struct {
+    int mark, least, most, bytes;
+} GateForm;
+
+static const GateForm NARROW = {0x47, 1, 4, 2}, WIDE = {0x48, 5, FANINS, 8};
+
 typedef struct {
     const uint8_t *at, *end;
 } Reader;
 
-static int mark(Reader *in, uint8_t second) {
+/* whether a record with this mark is next */
+static int opens(const Reader *in, int second) { return in->end - in->at >= 2 && in->at[0] == 0x4E && in->at[1] == second; }
+
+static int mark(Reader *in, int second) {
     if (in->end - in->at < 2) return 1;
-    if (in->at[0] != 0x4E || in->at[1] != second) return 2;
+    if (!opens(in, second)) return 2;
     in->at += 2;
     return 0;
 }
 
+static int excluded_bytes(int n) { return n < 3 ? 1 : 1 << (n - 3); }
+
 static int parse_excluded(Reader *in, Network *net) {
     in->at += 2;
-    int size = net->n < 3 ? 1 : 1 << (net->n - 3);
+    int size = excluded_bytes(net->n);
     if (in->end - in->at < size) return 1;
     for (int i = 0; i < size; i++) net->excluded[i / 8] |= (uint64_t)in->at[i] << (8 * (i % 8));
     in->at += size;
     return excluded_fault(net);
 }
 
-static int parse_gate(Reader *in, Network *net, int g) {
-    int fault = mark(in, 0x47);
+static inline int parse_form(Reader *in, GateForm form, Network *net, int g) {
+    int fault = mark(in, form.mark);
     if (fault) return fault;
     if (in->end - in->at < 1) return 1;
     int k = net->arity[g] = *in->at++;
-    if (k < 1 || FANINS < k) return 3;
-    if (in->end - in->at < k + 2) return 1;
+    if (k < form.least || form.most < k) return 3;
+    if (in->end - in->at < k + form.bytes) return 1;
     for (int r = 0; r < k; r++) net->fanins[g][r] = in->at[r];
-    net->tables[g] = in->at[k] | (unsigned)in->at[k + 1] << 8;
-    in->at += k + 2;
+    in->at += k;
+    uint64_t table = 0;
+    for (int i = 0; i < form.bytes; i++) table |= (uint64_t)in->at[i] << (8 * i);
+    in->at += form.bytes;
+    net->tables[g] = table;
     return gate_fault(net, g);
+}
+
+/* a call for each form, which compiles to its own code */
+static int parse_gate(Reader *in, Network *net, int g) {
+    return opens(in, WIDE.mark) ? parse_form(in, WIDE, net, g) : parse_form(in, NARROW, net, g);
 }
 
 static int parse_output(Reader *in, Network *net, int i) {
@@ -81,11 +105,46 @@ int parse(const uint8_t *file, size_t size, Network *net) {
     net->n = in.at[0], net->m = in.at[1], net->p = in.at[2];
     in.at += 3;
     fault = counts_fault(net);
-    if (!fault && in.end - in.at >= 2 && in.at[0] == 0x4E && in.at[1] == 0x58) fault = parse_excluded(&in, net);
+    if (!fault && opens(&in, 0x58)) fault = parse_excluded(&in, net);
     for (int g = 0; !fault && g < net->m; g++) fault = parse_gate(&in, net, g);
     for (int i = 0; !fault && i < net->p; i++) fault = parse_output(&in, net, i);
     return fault ? fault : in.at < in.end ? 8 : 0;
 }
+
+static uint8_t *put_mark(uint8_t *at, int second) {
+    *at++ = 0x4E, *at++ = (uint8_t)second;
+    return at;
+}
+
+static uint8_t *put_excluded(uint8_t *at, const Network *net) {
+    int size = excluded_bytes(net->n), any = 0;
+    for (int w = 0; w < WORDS; w++) any |= net->excluded[w] != 0;
+    if (!any) return at;
+    at = put_mark(at, 0x58);
+    for (int i = 0; i < size; i++) *at++ = (uint8_t)(net->excluded[i / 8] >> (8 * (i % 8)));
+    return at;
+}
+
+static uint8_t *put_gate(uint8_t *at, const Network *net, int g) {
+    int k = net->arity[g];
+    GateForm form = k < WIDE.least ? NARROW : WIDE;
+    at = put_mark(at, form.mark);
+    *at++ = (uint8_t)k;
+    for (int r = 0; r < k; r++) *at++ = net->fanins[g][r];
+    for (int i = 0; i < form.bytes; i++) *at++ = (uint8_t)(net->tables[g] >> (8 * i));
+    return at;
+}
+
+size_t print(const Network *net, uint8_t *file) {
+    uint8_t *at = put_mark(file, 0x49);
+    *at++ = (uint8_t)net->n, *at++ = (uint8_t)net->m, *at++ = (uint8_t)net->p;
+    at = put_excluded(at, net);
+    for (int g = 0; g < net->m; g++) at = put_gate(at, net, g);
+    for (int i = 0; i < net->p; i++) at = put_mark(at, 0x4F), *at++ = net->outputs[i];
+    return (size_t)(at - file);
+}
+
+/* ## The tests of a session's calls, and the exchange */
 
 int state_test(const Network *loaded, const Network *current) {
     return state_fault(loaded) || state_fault(current) ? 10 : 0;
@@ -96,7 +155,7 @@ static int pair_test(const Network *loaded, uint64_t named, uint64_t gate, uint6
     uint64_t g = gate - (uint64_t)loaded->n;
     if ((uint64_t)loaded->m <= g) return 11;
     if (named >> g & 1) return 16;
-    return table & ~(uint64_t)all_entries(loaded->arity[g]) ? 12 : 0;
+    return table & ~all_entries(loaded->arity[g]) ? 12 : 0;
 }
 
 int handful_test(const Network *loaded, const Network *current, const Handful *handful) {
@@ -106,7 +165,7 @@ int handful_test(const Network *loaded, const Network *current, const Handful *h
     for (size_t i = 0; i < handful->gates_len; i++) {
         int number = pair_test(loaded, named, handful->gates[i], handful->tables[i]);
         if (number) return number;
-        named |= (uint64_t)1 << (handful->gates[i] - (uint64_t)loaded->n);
+        named |= BIT(handful->gates[i] - (uint64_t)loaded->n);
     }
     return 0;
 }
@@ -118,6 +177,6 @@ Answer exchange(const Network *loaded, Network *current, const Sets *sets, uint6
     uint64_t g = gate - (uint64_t)loaded->n;
     uint64_t altered = (loaded->tables[g] ^ table) & ~sets->open[g];
     if (altered) return (Answer){13, __builtin_ctzll(altered), 0};
-    current->tables[g] = (unsigned)table;
+    current->tables[g] = table;
     return (Answer){0, 0, 0};
 }

@@ -7,13 +7,12 @@
 #include <string.h>
 #include <time.h>
 
-enum { CASES = 21, BATCHES = 5 };
-#define FILE_SIZE TUSQIRMA_MOST_FILE
+enum { CASES = 21, BATCHES = 5, TABLE_WORDS = 5 };
 #define SESSION TUSQIRMA_SESSION_WORDS
 
 /* a network as a file and as a text, a question about some of its gates, and room for the answers */
 typedef struct {
-    uint8_t file[FILE_SIZE], text[MOST_BLIF];
+    uint8_t file[MOST_FILE], text[MOST_BLIF];
     size_t size, text_size;
     Network loaded, current, replaced;
     Sets sets;
@@ -31,46 +30,47 @@ static unsigned below(unsigned bound) {
 
 /* ## Random networks */
 
-static void put(Case *c, int byte) { c->file[c->size++] = (uint8_t)byte; }
+/* n inputs, m gates of `least` to `most` fan-ins, where n is at least `most` */
+typedef struct {
+    int n, m, least, most;
+} Kind;
 
 /* the next fan-in: every other one a signal that feeds nothing yet, where there is one */
-static int pick(int signals, uint64_t *unused) {
+static int pick(int signals, uint64_t unused) {
     int s = (int)below((unsigned)signals);
-    uint64_t later = *unused >> s << s;
-    if (below(2) && *unused) s = __builtin_ctzll(later ? later : *unused);
+    uint64_t later = unused >> s << s;
+    if (below(2) && unused) s = __builtin_ctzll(later ? later : unused);
     return s;
 }
 
-static void put_gate(Case *c, int n, int g, int least, uint64_t *unused) {
-    int k = least + (int)below(5 - (unsigned)least), used[FANINS];
-    put(c, 0x4E), put(c, 0x47), put(c, k);
-    for (int r = 0; r < k; r++) {
-        int fresh = 0;
-        while (!fresh) {
-            used[r] = pick(n + g, unused);
-            fresh = 1;
-            for (int q = 0; q < r; q++) fresh &= used[q] != used[r];
-        }
-        put(c, used[r]);
-    }
-    for (int r = 0; r < k; r++) *unused &= ~((uint64_t)1 << used[r]);
-    *unused |= (uint64_t)1 << (n + g);
-    unsigned table = below(65536) & all_entries(k);
-    put(c, table & 255), put(c, table >> 8);
+static uint64_t random_table(int k) {
+    uint64_t table = 0;
+    for (int t = 0; t < 1 << k; t += 16) table |= (uint64_t)below(65536) << t;
+    return table & all_entries(k);
 }
 
-/* m gates of `least` to 4 fan-ins, the last 8 gates as outputs; every other network excludes about one pattern in eight */
-static void make(Case *c, int n, int m, int least, int excludes) {
-    c->size = 0;
-    put(c, 0x4E), put(c, 0x49), put(c, n), put(c, m), put(c, 8);
-    if (excludes) {
-        put(c, 0x4E), put(c, 0x58);
-        int size = n < 3 ? 1 : 1 << (n - 3);
-        for (int i = 0; i < size; i++) put(c, n < 3 ? 0 : (int)(below(256) & below(256) & below(256)));
+static void make_gate(Network *net, int g, const Kind *kind, uint64_t *unused) {
+    int k = kind->least + (int)below((unsigned)(kind->most - kind->least + 1)), s;
+    uint64_t listed = 0;
+    for (int r = 0; r < k; r++) {
+        do s = pick(net->n + g, *unused);
+        while (listed >> s & 1);
+        listed |= BIT(s);
+        net->fanins[g][r] = (uint8_t)s;
     }
-    uint64_t unused = ((uint64_t)1 << n) - 1;
-    for (int g = 0; g < m; g++) put_gate(c, n, g, least, &unused);
-    for (int i = 0; i < 8; i++) put(c, 0x4E), put(c, 0x4F), put(c, n + m - 1 - i % m);
+    *unused = (*unused & ~listed) | BIT(net->n + g);
+    net->arity[g] = (uint8_t)k, net->tables[g] = random_table(k);
+}
+
+/* the last 8 gates are outputs; every other network excludes about one pattern in eight */
+static void make(Case *c, const Kind *kind, int excludes) {
+    Network net = {.n = kind->n, .m = kind->m, .p = OUTPUTS};
+    for (int i = 0; excludes && i < (1 << net.n) / 8; i++)
+        net.excluded[i / 8] |= (uint64_t)(below(256) & below(256) & below(256)) << (8 * (i % 8));
+    uint64_t unused = BIT(net.n) - 1;
+    for (int g = 0; g < net.m; g++) make_gate(&net, g, kind, &unused);
+    for (int i = 0; i < net.p; i++) net.outputs[i] = (uint8_t)(net.n + net.m - 1 - i % net.m);
+    c->size = print(&net, c->file);
 }
 
 /* ## The calls, each beside the baseline's way to the same answer */
@@ -112,7 +112,7 @@ static void our_listing(Case *c) {
     if (tusqirma_listing(c->file, c->size, text, sizeof text, c->out, 1)) die("listing");
 }
 static void our_tables(Case *c) {
-    if (tusqirma_all_tables(c->session, SESSION, c->out, 4 * GATES)) die("tables");
+    if (tusqirma_all_tables(c->session, SESSION, c->out, TABLE_WORDS * GATES)) die("tables");
 }
 static void base_tables(const Baseline *b, Case *c) {
     if (state_test(&c->loaded, &c->current)) die("state");
@@ -139,7 +139,7 @@ static void base_verdict(const Baseline *b, Case *c) {
     const Handful *h = &c->asked;
     if (handful_test(&c->loaded, &c->current, h)) die("question");
     c->replaced = c->current;
-    for (size_t i = 0; i < h->gates_len; i++) c->replaced.tables[h->gates[i] - (uint64_t)c->loaded.n] = (unsigned)h->tables[i];
+    for (size_t i = 0; i < h->gates_len; i++) c->replaced.tables[h->gates[i] - (uint64_t)c->loaded.n] = h->tables[i];
     c->answer = b->verdict(&c->loaded, &c->replaced);
 }
 static void our_exchange(Case *c) {
@@ -153,19 +153,19 @@ static void base_exchange(const Baseline *b, Case *c) {
 
 /* ## Questions: gates and tables that alter entries of a kind, where the network has some */
 
-static void put_pair(Case *c, int g, unsigned altered) {
+static void put_pair(Case *c, int g, uint64_t altered) {
     Handful *h = &c->asked;
     h->gates[h->gates_len++] = (uint64_t)(c->loaded.n + g);
     h->tables[h->tables_len++] = c->loaded.tables[g] ^ altered;
 }
 
 /* one entry of one gate */
-static void ask(Case *c, const unsigned *entries, int wanted) {
+static void ask(Case *c, const uint64_t *entries, int wanted) {
     for (int g = 0; g < c->loaded.m; g++)
         for (int t = 0; t < 1 << c->loaded.arity[g]; t++)
             if ((int)(entries[g] >> t & 1) == wanted) {
                 c->asked.gates_len = c->asked.tables_len = 0;
-                put_pair(c, g, 1u << t);
+                put_pair(c, g, BIT(t));
                 if (below(8) == 0) return;
             }
 }
@@ -179,14 +179,14 @@ static void closed(Case *c) { ask(c, c->sets.open, 0); }
 static void ask_open(Case *c, int count) {
     for (int has = 1; has >= 0; has--)
         for (int g = 0; g < c->loaded.m && count; g++)
-            if ((c->sets.open[g] != 0) == has) put_pair(c, g, below(65536) & c->sets.open[g]), count--;
+            if ((c->sets.open[g] != 0) == has) put_pair(c, g, random_table(c->loaded.arity[g]) & c->sets.open[g]), count--;
 }
 static void eight_open(Case *c) { ask_open(c, 8); }
 static void all_open(Case *c) { ask_open(c, c->loaded.m); }
 
 /* one random entry of each gate */
 static void all_altered(Case *c) {
-    for (int g = 0; g < c->loaded.m; g++) put_pair(c, g, 1u << below(1u << c->loaded.arity[g]));
+    for (int g = 0; g < c->loaded.m; g++) put_pair(c, g, BIT(below(1u << c->loaded.arity[g])));
 }
 
 typedef struct {
@@ -219,14 +219,22 @@ static void same(int holds, const char *what) {
     if (!holds) die(what);
 }
 
+/* the table and behind it its complement, over two words */
+static int is_sdc(const uint64_t *words, int k, uint64_t table) {
+    uint64_t complement = all_entries(k) & ~table;
+    return k == 6 ? words[0] == table && words[1] == complement : words[0] == (table | complement << (1 << k)) && !words[1];
+}
+
 static void compare_sets(Case *c) {
     const Network *net = &c->loaded;
     int words = word_count(net->n);
     our_tables(c);
     for (int g = 0; g < net->m; g++) {
-        same(c->out[4 * g + 1] == c->sets.cdc[g], "CDC");
-        same(c->out[4 * g + 2] == c->sets.full[g], "full");
-        same(c->out[4 * g + 3] == c->sets.open[g], "open");
+        const uint64_t *own = c->out + TABLE_WORDS * g;
+        same(is_sdc(own, net->arity[g], net->tables[g]), "SDC");
+        same(own[2] == c->sets.cdc[g], "CDC");
+        same(own[3] == c->sets.full[g], "full");
+        same(own[4] == c->sets.open[g], "open");
     }
     our_sets(c);
     for (int g = 0; g < net->m; g++) {
@@ -312,13 +320,18 @@ static double median(double *xs, int count) {
     return xs[count / 2];
 }
 
-static void row(int n, int m, int least, const Task *task) {
+static void put_kind(const Kind *kind) {
+    printf("| %d | %d | %d", kind->n, kind->m, kind->least);
+    if (kind->least < kind->most) printf(" to %d", kind->most);
+}
+
+static void row(const Kind *kind, const Task *task) {
     static Case c;
     double ours[CASES], plain[CASES], tuned[CASES];
     int count = 0;
     seed = 1;
     for (int i = 0; i < CASES; i++) {
-        make(&c, n, m, least, i % 2);
+        make(&c, kind, i % 2);
         if (!prepare(&c, task)) continue;
         ours[count] = cost(task, 0, &c);
         tuned[count] = cost(task, &TUNED, &c);
@@ -326,13 +339,14 @@ static void row(int n, int m, int least, const Task *task) {
     }
     if (!count) return;
     double o = median(ours, count), p = median(plain, count), t = median(tuned, count);
-    printf("| %d | %d | %s | %s | %.2f | %.2f | %.2f | %.1f | %.2f |\n", n, m, least == 4 ? "4" : "1 to 4", task->name, o, t, p, p / o, o / t);
+    put_kind(kind);
+    printf(" | %s | %.2f | %.2f | %.2f | %.1f | %.2f |\n", task->name, o, t, p, p / o, o / t);
     fflush(stdout);
 }
 
 /* how many times as long the library takes at n = 10, m = 40 as in smaller networks, which are timed in turn with the large ones */
 static void growth(const Task *task) {
-    static const int FROM[][2] = {{6, 40}, {8, 40}, {10, 10}, {10, 20}};
+    static const Kind FROM[] = {{6, 40, 1, 4}, {8, 40, 1, 4}, {10, 10, 1, 4}, {10, 20, 1, 4}}, TO = {10, 40, 1, 4};
     static Case small, large;
     printf("| %s |", task->name);
     for (size_t s = 0; s < sizeof FROM / sizeof *FROM; s++) {
@@ -340,8 +354,8 @@ static void growth(const Task *task) {
         int count = 0;
         seed = 1;
         for (int i = 0; i < CASES; i++) {
-            make(&small, FROM[s][0], FROM[s][1], 1, i % 2);
-            make(&large, 10, 40, 1, i % 2);
+            make(&small, &FROM[s], i % 2);
+            make(&large, &TO, i % 2);
             if (!prepare(&small, task) || !prepare(&large, task)) continue;
             double before = cost(task, 0, &small);
             ratios[count++] = cost(task, 0, &large) / before;
@@ -353,12 +367,13 @@ static void growth(const Task *task) {
 }
 
 int main(void) {
-    static const int SIZES[][3] = {{10, 40, 1}, {10, 40, 4}, {10, 20, 1}, {10, 10, 1}, {8, 40, 1}, {6, 40, 1}, {4, 40, 1}};
+    static const Kind KINDS[] = {{10, 40, 1, 4}, {10, 40, 4, 4}, {10, 40, 1, 6}, {10, 40, 6, 6}, {10, 20, 1, 4},
+                                 {10, 10, 1, 4}, {8, 40, 1, 4},  {6, 40, 1, 4},  {4, 40, 1, 4}};
     if (tusqirma_session_words() != SESSION) die("session words");
     printf("| n | m | k | task | library, us | tuned C, us | plain C, us | times faster than plain | times the tuned one |\n");
     printf("|---|---|---|---|---|---|---|---|---|\n");
-    for (size_t s = 0; s < sizeof SIZES / sizeof *SIZES; s++)
-        for (size_t t = 0; t < sizeof TASKS / sizeof *TASKS; t++) row(SIZES[s][0], SIZES[s][1], SIZES[s][2], &TASKS[t]);
+    for (size_t s = 0; s < sizeof KINDS / sizeof *KINDS; s++)
+        for (size_t t = 0; t < sizeof TASKS / sizeof *TASKS; t++) row(&KINDS[s], &TASKS[t]);
     printf("\n| times as long at n = 10, m = 40 as at | n = 6, m = 40 | n = 8, m = 40 | n = 10, m = 10 | n = 10, m = 20 |\n|---|---|---|---|---|\n");
     for (size_t t = 0; t < sizeof TASKS / sizeof *TASKS; t++) growth(&TASKS[t]);
     return 0;

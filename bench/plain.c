@@ -37,14 +37,14 @@ static void dont_cares(const Network *net, Sets *sets) {
             unsigned t = entry(net, g, values);
             sets->odc[g][x / 64] |= (uint64_t)same << (x % 64);
             if (excluded(net, x)) continue;
-            sets->cdc[g] &= ~(1u << t);
-            if (!same) sets->full[g] &= ~(1u << t);
+            sets->cdc[g] &= ~BIT(t);
+            if (!same) sets->full[g] &= ~BIT(t);
         }
     }
 }
 
 /* the fan-ins that rule 6 frees at entry t, as bits */
-static unsigned free_fanins(int k, unsigned table, unsigned t) {
+static unsigned free_fanins(int k, uint64_t table, unsigned t) {
     unsigned free = 0;
     for (int r = 0; r < k; r++) {
         unsigned more = free | 1u << r;
@@ -85,7 +85,7 @@ static void compatible(const Network *net, Sets *sets) {
             unsigned t = entry(net, g, values), free = 0;
             for (int r = 0; r < net->arity[g]; r++) free |= (unsigned)hidden[net->fanins[g][r]] << r;
             for (unsigned u = 0; u < 1u << net->arity[g]; u++)
-                if ((u & ~free) == (t & ~free)) sets->open[g] &= ~(1u << u);
+                if ((u & ~free) == (t & ~free)) sets->open[g] &= ~BIT(u);
         }
     }
 }
