@@ -2,23 +2,22 @@
 -- Assumes nothing.
 use mathlib.Core.Path.{_≡_, refl, sym, ap, ap₂, _∙_}
 use mathlib.Core.Bool.{Bool, false}
-use mathlib.Core.List.{List, [], _∷_, _++_, map}
-use Prim.Native.Nat.{ℕ, _+_, _*_, _/_, _^_, _≤_, _<_}
+use mathlib.Core.List.{List, map}
+use Prim.Native.Nat.{ℕ, _+_, _*_, _≤_, _<_}
 use native.Mathlib.Decide.{ℕ-discrete}
 use native.Mathlib.Omega.{arith}
-use lib.Bits.{bitXor}
-use lib.ListN.{length, getD, set, length-set, length-map}
+use lib.ListN.{length, getD, set, length-set}
 use lib.Seq.{ext-getD, getD-set-same, getD-set-other}
 use Rattle.bits.specs.Bounds.{rowWords, gatePlaces}
 use Rattle.bits.specs.Bit.{bit, number, column}
-use Rattle.bits.proofs.Ranges.{length-places, places-at, places-ext, map-snoc, map-places, table-ext, column-at}
-use Rattle.bits.proofs.Shannon.{davio}
+use Rattle.bits.proofs.Ranges.{length-places, places-at, places-ext, map-places, table-ext, column-at}
 use Rattle.network.specs.Bounds.{mostSignals, signalWords}
 use Rattle.network.specs.Net.{entry}
 use Rattle.network.specs.Flat.{gateAt}
 use Rattle.network.specs.Valid.{GateOk}
 use Rattle.network.proofs.FlatGates.{entry-at}
-use Rattle.simulate.specs.Simulated.{wordsAt, valueAt, firstFanins, LutRow, Joined}
+use Rattle.widelut.specs.Functions.{FunctionsAt}
+use Rattle.simulate.specs.Simulated.{wordsAt, valueAt, firstFanins, LutRow, FunctionRows}
 
 -- one word more of a row whose bits are given by p
 pub filled-bits : (l : List ℕ) (p : ℕ → ℕ → Bool) (i v : ℕ) → i < length l
@@ -102,20 +101,15 @@ module _ (t : ℕ) (rows ss : List ℕ) where
   pub row-done : (l : List ℕ) (i count : ℕ) → count ≤ i → LutRow t rows ss i l → LutRow t rows ss count l
   row-done l i count h row = record { long = row .long; each = λ w b k. row .each w b (omega arith) }
 
-  -- one signal more, by Davio's expansion: the row of the lower half, joined with that of its difference from the upper half
-  pub row-more : (other l₀ l : List ℕ) (s count : ℕ) → LutRow (bitXor t (t / 2 ^ 2 ^ length ss)) rows ss count other → LutRow t rows ss count l₀
-      → Joined rows other l₀ l s count → LutRow t rows (ss ++ s ∷ []) count l
-  row-more other l₀ l s count up lo join = record { long = join .long; each = each }
-    where
-      at : ℕ → ℕ → ℕ → Bool
-      at w b s = valueAt rows s w b
-
-      each : (w b : ℕ) → w < count → b < 64 → bit (getD l w 0) b ≡ bit t (number (map (at w b) (ss ++ s ∷ [])))
-      each w b hw hb =
-          ap (λ (x : ℕ). bit x b) (join .each w hw)
-          ∙ davio t (getD l₀ w 0) (getD other w 0) (getD rows (rowWords * s + w) 0) b (map (at w b) ss) (lo .each w b hw hb)
-          (rw length-map (up .each w b hw hb))
-          ∙ ap (λ (bs : List Bool). bit t (number bs)) (sym (map-snoc (at w b) ss s))
+-- the functions of two signals in one word more
+pub functions-step : (rows old functions : List ℕ) (a b w : ℕ) → FunctionRows rows old a b w
+    → FunctionsAt functions w (getD rows (rowWords * a + w) 0) (getD rows (rowWords * b + w) 0)
+    → ((t v : ℕ) → v < w → getD functions (rowWords * t + v) 0 ≡ getD old (rowWords * t + v) 0) → FunctionRows rows functions a b (w + 1)
+functions-step rows old functions a b w so-far here kept v hv = go (ℕ-discrete v w)
+  where
+    go : Dec (v ≡ w) → FunctionsAt functions v (getD rows (rowWords * a + v) 0) (getD rows (rowWords * b + v) 0)
+    go (yes e) = rw e here
+    go (no n) = λ t ht i hi. ap (λ (x : ℕ). bit x i) (kept t v (omega arith)) ∙ so-far v (omega arith) t ht i hi
 
 -- all fan-ins of a gate pick its entry
 pub row-entry : (t : ℕ) (ks fs rows l : List ℕ) (k g count : ℕ) → GateOk ks fs g mostSignals → k ≡ getD ks g 0 → LutRow t rows (firstFanins fs k g) count l

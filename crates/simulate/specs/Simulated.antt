@@ -3,7 +3,6 @@ use mathlib.Core.Path.{_≡_}
 use mathlib.Core.Bool.{Bool}
 use mathlib.Core.List.{List, map}
 use Prim.Native.Nat.{ℕ, _+_, _*_, _<_}
-use lib.Bits.{bitAnd, bitXor}
 use lib.ListN.{length, getD, take}
 use Rattle.bits.specs.Bounds.{rowWords, gatePlaces}
 use Rattle.bits.specs.Range.{places}
@@ -11,6 +10,7 @@ use Rattle.bits.specs.Bit.{bit, column, number}
 use Rattle.network.specs.Bounds.{mostSignals}
 use Rattle.network.specs.Net.{run}
 use Rattle.network.specs.Flat.{gatesOf}
+use Rattle.widelut.specs.Functions.{FunctionsAt}
 
 -- word s of the first i has at bit b the value of input s at the pattern 64 w + b
 abbrev pub Inputs : (words : List ℕ) (i w : ℕ) → Type 0
@@ -49,7 +49,6 @@ pub record LutRow (t : ℕ) (rows signals : List ℕ) (count : ℕ) (row : List 
   pub long : length row ≡ rowWords
   pub each : (w b : ℕ) → w < count → b < 64 → bit (getD row w 0) b ≡ bit t (number (map (λ s. valueAt rows s w b) signals))
 
--- the row l, from the row l₀: another one is added to its first `count` words where signal s has a 1
-pub record Joined (rows other l₀ l : List ℕ) (s count : ℕ) : Type 0 where
-  pub long : length l ≡ rowWords
-  pub each : (w : ℕ) → w < count → getD l w 0 ≡ bitXor (getD l₀ w 0) (bitAnd (getD rows (rowWords * s + w) 0) (getD other w 0))
+-- in the first `count` words, the rows of all functions of the signals a and b
+abbrev pub FunctionRows : (rows functions : List ℕ) (a b count : ℕ) → Type 0
+FunctionRows rows functions a b count = (w : ℕ) → w < count → FunctionsAt functions w (getD rows (rowWords * a + w) 0) (getD rows (rowWords * b + w) 0)

@@ -9,12 +9,14 @@ ghost use Rattle.network.specs.Bounds.{mostGates, mostSignals, signalWords};
 ghost use Rattle.network.specs.Net.{entry};
 ghost use Rattle.network.specs.Flat.{gateAt};
 ghost use Rattle.network.specs.Valid.{GateOk, NetOk};
-ghost use Rattle.simulate.specs.Simulated.{Inputs, wordsAt, Rows, firstFanins, Signals, LutRow, Joined};
+ghost use Rattle.widelut.specs.Functions.{functionWords};
+ghost use Rattle.simulate.specs.Simulated.{Inputs, wordsAt, Rows, firstFanins, Signals, LutRow, FunctionRows};
 use bits::GATE_PLACES;
 use bits::ROW_WORDS;
 use network::FANIN_PLACES;
 use network::MOST_GATES;
 use network::SIGNAL_WORDS;
+use widelut::FUNCTION_WORDS;
 
 // The table t at the rows of one to four signals, into a lent row.
 fn row1(t: u64, rows: &[u64; SIGNAL_WORDS], count: usize, a: usize, out: &mut [u64; ROW_WORDS])
@@ -104,25 +106,6 @@ fn row4(
     }
 }
 
-// Changes the row where signal s has a 1: there another one is added to it.
-fn join(
-    rows: &[u64; SIGNAL_WORDS],
-    count: usize,
-    s: usize,
-    other: &[u64; ROW_WORDS],
-    out: &mut [u64; ROW_WORDS],
-)
-    requires { ⌜ (count ≤ rowWords) × (s < mostSignals) × (length (now out) ≡ rowWords) ⌝ }
-    ensures { λ _. ⌜ Joined (now (rows .entry)) (now (other .entry)) (now (out .entry)) (now (out .exit)) s count ⌝ }
-{
-    let mut w = 0;
-    while w < count {
-        let v = out[w] ^ (rows[ROW_WORDS * s + w] & other[w]);
-        out[w] = v;
-        w += 1;
-    }
-}
-
 // Fan-in r of gate g.
 pub fn fanin(fanins: &[u8; FANIN_PLACES], g: usize, r: usize) -> usize
     requires { ⌜ (g < mostGates) × (r < gatePlaces) ⌝ }
@@ -131,8 +114,30 @@ pub fn fanin(fanins: &[u8; FANIN_PLACES], g: usize, r: usize) -> usize
     network::place(fanins[GATE_PLACES * g + r])
 }
 
-// The table t at the rows of the first five fan-ins of gate g, or six, into a lent row. By Davio's expansion of whole rows: the row of the
-// lower half, and where the last fan-in is 1 the row of its difference from the upper half on top.
+// The rows of all functions of the signals a and b, into lent rows.
+fn function_rows(
+    rows: &[u64; SIGNAL_WORDS],
+    count: usize,
+    a: usize,
+    b: usize,
+    functions: &mut [u64; FUNCTION_WORDS],
+)
+    requires { ⌜ (count ≤ rowWords) × (a < mostSignals) × (b < mostSignals) × (length (now functions) ≡ functionWords) ⌝ }
+    ensures { λ _. ⌜ FunctionRows (now (rows .entry)) (now (functions .exit)) a b count ⌝ }
+{
+    let mut w = 0;
+    while w < count {
+        widelut::put_functions(
+            functions,
+            w,
+            rows[ROW_WORDS * a + w],
+            rows[ROW_WORDS * b + w],
+        );
+        w += 1;
+    }
+}
+
+// The table t at the rows of the first five fan-ins of gate g, or six, into a lent row: by the functions of the first two.
 fn row5(
     t: u64,
     fanins: &[u8; FANIN_PLACES],
@@ -150,10 +155,21 @@ fn row5(
     let c = fanin(fanins, g, 2);
     let d = fanin(fanins, g, 3);
     let e = fanin(fanins, g, 4);
-    let mut other = [0u64; ROW_WORDS];
-    row4(t ^ (t >> 16), rows, count, a, b, c, d, &mut other);
-    row4(t, rows, count, a, b, c, d, out);
-    join(rows, count, e, &other, out);
+    let mut functions = [0u64; FUNCTION_WORDS];
+    function_rows(rows, count, a, b, &mut functions);
+    let mut w = 0;
+    while w < count {
+        let v = widelut::lut5(
+            &functions,
+            t,
+            w,
+            rows[ROW_WORDS * c + w],
+            rows[ROW_WORDS * d + w],
+            rows[ROW_WORDS * e + w],
+        );
+        out[w] = v;
+        w += 1;
+    }
 }
 
 fn row6(
@@ -168,11 +184,28 @@ fn row6(
     requires { ⌜ Signals (now fanins) 6 g ⌝ }
     ensures { λ _. ⌜ LutRow t (now (rows .entry)) (firstFanins (now (fanins .entry)) 6 g) count (now (out .exit)) ⌝ }
 {
+    let a = fanin(fanins, g, 0);
+    let b = fanin(fanins, g, 1);
+    let c = fanin(fanins, g, 2);
+    let d = fanin(fanins, g, 3);
+    let e = fanin(fanins, g, 4);
     let f = fanin(fanins, g, 5);
-    let mut other = [0u64; ROW_WORDS];
-    row5(t ^ (t >> 32), fanins, rows, count, g, &mut other);
-    row5(t, fanins, rows, count, g, out);
-    join(rows, count, f, &other, out);
+    let mut functions = [0u64; FUNCTION_WORDS];
+    function_rows(rows, count, a, b, &mut functions);
+    let mut w = 0;
+    while w < count {
+        let v = widelut::lut6(
+            &functions,
+            t,
+            w,
+            rows[ROW_WORDS * c + w],
+            rows[ROW_WORDS * d + w],
+            rows[ROW_WORDS * e + w],
+            rows[ROW_WORDS * f + w],
+        );
+        out[w] = v;
+        w += 1;
+    }
 }
 
 // The table t at the rows of the fan-ins of gate g, into a lent row.

@@ -2,72 +2,152 @@
 use borrow.Author.Needs.{needs}
 use mathlib.Core.Path.{refl}
 use mathlib.Core.List.{[], _∷_}
-use Prim.Native.Nat.{_<_}
+use Prim.Native.Nat.{_-_, _≤_, _<_}
 use native.Mathlib.Omega.{arith}
 use denote.Ref.{now}
+use Rattle.bits.specs.Bounds.{rowWords}
 use Rattle.network.specs.Bounds.{mostSignals}
-use Rattle.simulate.specs.Simulated.{firstFanins}
-use Rattle.simulate.proofs.RowLaws.{row-more}
+use Rattle.simulate.specs.Simulated.{firstFanins, LutRow}
+use Rattle.simulate.proofs.RowLaws.{row-none, row-step, row-done}
 use Rattle.simulate.proofs.row5.Statement.{statement}
 use Rattle.simulate.proofs.row5.Tie as tie
 
-fanin-requires : tie.Need-fanin-requires
+abbrev Inv-loop : tie.InvT-loop
+Inv-loop t fanins rows count g out₀ a b c d e functions w₀ out w =
+    (w ≤ count) × LutRow t rows (a ∷ b ∷ c ∷ d ∷ e ∷ []) w out × (count ≤ rowWords) × (c < mostSignals) × (d < mostSignals) × (e < mostSignals)
+
+abbrev μ-loop : tie.MeasureT-loop
+μ-loop t fanins rows count g out₀ a b c d e functions w₀ out w = count - w
+
+fanin-requires : tie.Need-fanin-requires Inv-loop μ-loop
 fanin-requires c κs = search needs
 
-fanin-requires-2 : tie.Need-fanin-requires-2
+fanin-requires-2 : tie.Need-fanin-requires-2 Inv-loop μ-loop
 fanin-requires-2 c κs = search needs
 
-fanin-requires-3 : tie.Need-fanin-requires-3
+fanin-requires-3 : tie.Need-fanin-requires-3 Inv-loop μ-loop
 fanin-requires-3 c κs = search needs
 
-fanin-requires-4 : tie.Need-fanin-requires-4
+fanin-requires-4 : tie.Need-fanin-requires-4 Inv-loop μ-loop
 fanin-requires-4 c κs = search needs
 
-fanin-requires-5 : tie.Need-fanin-requires-5
+fanin-requires-5 : tie.Need-fanin-requires-5 Inv-loop μ-loop
 fanin-requires-5 c κs = search needs
 
 -- the fan-ins are signals
-early : (c : tie.After-fanin5) → (c .before .before .before .before .fanin .result < mostSignals) × (c .before .before .before .fanin2 .result < mostSignals) × (c .before .before .fanin3 .result < mostSignals) × (c .before .fanin4 .result < mostSignals) × (c .fanin5 .result < mostSignals)
+early : (c : tie.After-fanin5 Inv-loop μ-loop) → (c .before .before .before .before .fanin .result < mostSignals) × (c .before .before .before .fanin2 .result < mostSignals) × (c .before .before .fanin3 .result < mostSignals) × (c .before .fanin4 .result < mostSignals) × (c .fanin5 .result < mostSignals)
 early c =
     let f = c .before .before .before .before .before .pre .1 in
     (omega (arith, c .before .before .before .before .fanin .ensures, f 0 (omega arith)), omega (arith, c .before .before .before .fanin2 .ensures, f 1 (omega arith)), omega (arith, c .before .before .fanin3 .ensures, f 2 (omega arith)), omega (arith, c .before .fanin4 .ensures, f 3 (omega arith)), omega (arith, c .fanin5 .ensures, f 4 (omega arith)))
 
-row4-requires : tie.Need-row4-requires
-row4-requires c κs =
-    let e = early (c .before) in
-    ((omega arith, refl), (omega arith, omega arith, omega arith, omega arith))
+function-rows-requires : tie.Need-function-rows-requires Inv-loop μ-loop
+function-rows-requires c κs = let e = early (c .before) in (omega arith, omega arith, omega arith, refl)
 
-row4-requires-2 : tie.Need-row4-requires-2
-row4-requires-2 c κs =
-    let f = c .before .before .before in
-    let e = early f in
-    ((omega arith, f .before .before .before .before .before .pre .0 .2), (omega arith, omega arith, omega arith, omega arith))
+loop-holds : tie.Need-loop-holds Inv-loop μ-loop
+loop-holds c =
+    let s = c .before .before .before .before .before .before .before in
+    let e = early (c .before .before) in
+    (omega arith, row-none (s .args .t) (now (s .args .rows)) _ _ (s .pre .0 .2), s .pre .0 .1, e .2, e .3, e .4)
 
-join-requires : tie.Need-join-requires
-join-requires c κs = (omega arith, omega (arith, early (c .before .before .before .before .before .before)), c .before .before .row42 .ensures .long)
+mul-lut5 : tie.Need-mul-lut5 Inv-loop μ-loop
+mul-lut5 c = search needs
 
-returns : tie.Need-returns
+add-lut5 : tie.Need-add-lut5 Inv-loop μ-loop
+add-lut5 c = search needs
+
+mul-lut5-2 : tie.Need-mul-lut5-2 Inv-loop μ-loop
+mul-lut5-2 c = search needs
+
+element-copy-out-lut5 : tie.Need-element-copy-out-lut5 Inv-loop μ-loop
+element-copy-out-lut5 c = search needs
+
+mul-lut5-3 : tie.Need-mul-lut5-3 Inv-loop μ-loop
+mul-lut5-3 c = search needs
+
+add-lut5-2 : tie.Need-add-lut5-2 Inv-loop μ-loop
+add-lut5-2 c = search needs
+
+mul-lut5-4 : tie.Need-mul-lut5-4 Inv-loop μ-loop
+mul-lut5-4 c = search needs
+
+element-copy-out-lut5-2 : tie.Need-element-copy-out-lut5-2 Inv-loop μ-loop
+element-copy-out-lut5-2 c = search needs
+
+mul-lut5-5 : tie.Need-mul-lut5-5 Inv-loop μ-loop
+mul-lut5-5 c = search needs
+
+add-lut5-3 : tie.Need-add-lut5-3 Inv-loop μ-loop
+add-lut5-3 c = search needs
+
+mul-lut5-6 : tie.Need-mul-lut5-6 Inv-loop μ-loop
+mul-lut5-6 c = search needs
+
+element-copy-out-lut5-3 : tie.Need-element-copy-out-lut5-3 Inv-loop μ-loop
+element-copy-out-lut5-3 c = search needs
+
+lut5-requires : tie.Need-lut5-requires Inv-loop μ-loop
+lut5-requires c κs = search needs
+
+mul-out : tie.Need-mul-out Inv-loop μ-loop
+mul-out c = search needs
+
+element-write-out : tie.Need-element-write-out Inv-loop μ-loop
+element-write-out c = search needs
+
+add-w : tie.Need-add-w Inv-loop μ-loop
+add-w c = search needs
+
+loop-less : tie.Need-loop-less Inv-loop μ-loop
+loop-less c = search needs
+
+loop-again : tie.Need-loop-again Inv-loop μ-loop
+loop-again c =
+    let l = c .before .before .before .before .before .before in
+    let fr = l .before in
+    let f = fr .before .before in
+    let a = f .before .before .before .before .before .args in
+    let w = l .loop .w in
+    let more = c .before .before .before .before .before .loop-test .taken in
+    let known = fr .function-rows .ensures w more in
+    (omega (arith, more), row-step (a .t) (now (a .rows)) (f .before .before .before .before .fanin .result ∷ f .before .before .before .fanin2 .result ∷ f .before .before .fanin3 .result ∷ f .before .fanin4 .result ∷ f .fanin5 .result ∷ []) (l .loop .out) w (c .lut5 .result) (omega (arith, more, l .loop .inv .2)) (l .loop .inv .1) (c .lut5 .ensures _ _ known), l .loop .inv .2, l .loop .inv .3, l .loop .inv .4, l .loop .inv .5)
+
+returns : tie.Need-returns Inv-loop μ-loop
 unfolding firstFanins
 returns c =
-    let lower = c .before .before .before in
-    let upper = lower .before .before in
-    let e = upper .before .before in
-    let f = e .before .before .before .before in
-    let a = f .before .args in
-    let four = f .fanin .result ∷ e .before .before .before .fanin2 .result ∷ e .before .before .fanin3 .result ∷ e .before .fanin4 .result ∷ [] in
-    let made = row-more (a .t) (now (a .rows)) four _ _ _ (e .fanin5 .result) (a .count) (upper .row4 .ensures) (lower .row42 .ensures) (c .join .ensures) in
-    rw (f .fanin .ensures, e .before .before .before .fanin2 .ensures, e .before .before .fanin3 .ensures, e .before .fanin4 .ensures, e .fanin5 .ensures) at made
+    let l = c .before .loop in
+    let f = c .before .before .before .before in
+    let made = row-done _ _ _ (l .out) (l .w) (f .before .before .before .before .before .args .count) (omega arith) (l .inv .1) in
+    rw (f .before .before .before .before .fanin .ensures, f .before .before .before .fanin2 .ensures, f .before .before .fanin3 .ensures, f .before .fanin4 .ensures, f .fanin5 .ensures) at made
 
 pub row5-spec : {M : Type 1} → statement M
 row5-spec =
     tie.close
     (tie.spec
+    Inv-loop
+    μ-loop
     fanin-requires
     fanin-requires-2
     fanin-requires-3
     fanin-requires-4
     fanin-requires-5
-    row4-requires
-    row4-requires-2
-    join-requires
+    function-rows-requires
+    loop-holds
+    mul-lut5
+    add-lut5
+    mul-lut5-2
+    element-copy-out-lut5
+    mul-lut5-3
+    add-lut5-2
+    mul-lut5-4
+    element-copy-out-lut5-2
+    mul-lut5-5
+    add-lut5-3
+    mul-lut5-6
+    element-copy-out-lut5-3
+    lut5-requires
+    mul-out
+    element-write-out
+    add-w
+    loop-less
+    loop-again
     returns)
