@@ -161,6 +161,16 @@ module _ (ks fs us ts old : List ℕ) (n m count : ℕ) (sim : Rows ks fs us old
       first-gates : gatesOf ks fs us from ≡ gatesOf ks fs ts from
       first-gates = places-ext from (gateAt ks fs us) (gateAt ks fs ts) (λ g l. ap (λ (t : ℕ). record { fanins = faninsAt ks fs g; table = t }) (same g l))
 
+  -- the words of a gate whose table is complemented: its words the other way round
+  pub inverted-words : (g w b v : ℕ) → g < m → GateOk ks fs g (n + g) → w < count → b < 64 → bit v b ≡ not (bit (getD (wordsAt old w) (n + g) 0) b)
+      → ((e : ℕ) → e < 2 ^ getD ks g 0 → bit (getD ts g 0) e ≡ not (bit (getD us g 0) e))
+      → bit v b ≡ bit (getD ts g 0) (entry (column (wordsAt old w) b) (gateAt ks fs ts g))
+  inverted-words g w b v hg ok hw hb turned flipped =
+      turned
+      ∙ ap not (gate-value ks fs us n (w * 64 + b) (wordsAt old w) m b (sim w hw .each b hb) g hg ok)
+      ∙ sym (flipped (entry (column (wordsAt old w) b) (gateAt ks fs us g)) (entry-lt ks fs us (column (wordsAt old w) b) g))
+      ∙ ap (bit (getD ts g 0)) (entry-at ks fs us (column (wordsAt old w) b) g ∙ sym (entry-at ks fs ts (column (wordsAt old w) b) g))
+
   module _ (rows : List ℕ) (h changed : ℕ) (hm : h < m) (fits : n + h < mostSignals) (ok : GateOk ks fs h (n + h)) (so-far : Updated ks fs ts old rows n count h changed) where
     -- the gate's words are there
     there : ((w : ℕ) → w < count → (b : ℕ) → b < 64 → bit (getD (wordsAt rows w) (n + h) 0) b ≡ bit (getD ts h 0) (entry (column (wordsAt rows w) b) (gateAt ks fs ts h)))

@@ -25,3 +25,9 @@ abbrev pub Stepped : (ks fs before ts masks rows new : List ℕ) (n count h chan
 Stepped ks fs before ts masks rows new n count h changed r =
     (old : List ℕ) (m : ℕ) → h < m → Rows ks fs before old n m count → Masked ks fs masks m
     → Updated ks fs ts old rows n count h changed → Updated ks fs ts old new n count (h + 1) r
+
+-- some rows under the tables us are done up to gate h
+pub record Begun (ks fs us ts rows : List ℕ) (n m count h changed : ℕ) : Type 0 where
+  pub old : List ℕ
+  pub sim : Rows ks fs us old n m count
+  pub so-far : Updated ks fs ts old rows n count h changed

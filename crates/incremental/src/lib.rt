@@ -1,6 +1,6 @@
 // Simulation: the words of all signals under other tables, from words that are there. Rows as in `simulate`.
 ghost use mathlib.Core.Path.{_≡_};
-ghost use mathlib.Core.Bool.{true};
+ghost use mathlib.Core.Bool.{true, not};
 ghost use Prim.Native.Nat.{ℕ, _+_, _*_, _<_, _≤_};
 ghost use lib.ListN.{length, getD, take};
 ghost use Rattle.bits.specs.Bounds.{mostInputs, rowWords, gatePlaces};
@@ -11,7 +11,7 @@ ghost use Rattle.network.specs.DontCares.{runInverted};
 ghost use Rattle.network.specs.Flat.{gatesOf};
 ghost use Rattle.network.specs.Valid.{GateOk, NetOk};
 ghost use Rattle.simulate.specs.Simulated.{wordsAt, Rows};
-ghost use Rattle.incremental.specs.Updated.{Masked, Stepped};
+ghost use Rattle.incremental.specs.Updated.{Masked, Stepped, Begun};
 use bits::ROW_WORDS;
 use network::FANIN_PLACES;
 use network::MOST_GATES;
@@ -102,7 +102,8 @@ fn step(
     changed | bits::power((n + h) as u64)
 }
 
-// The rows under the tables `before` become those under `tables`, which are the same up to gate `from`.
+// Rows that are those under `tables` up to gate `from`, and from there on those under the tables `before`, become those under `tables`.
+// The signals that have changed so far are given.
 fn update_from(
     n: usize,
     m: usize,
@@ -113,16 +114,16 @@ fn update_from(
     masks: &[u64; MOST_GATES],
     count: usize,
     from: usize,
+    given: u64,
     rows: &mut [u64; SIGNAL_WORDS],
 )
     requires { ⌜ NetOk (now arity) (now fanins) n m ⌝ }
-    requires { ⌜ (count ≤ rowWords) × (from ≤ m) × (length (now rows) ≡ signalWords) ⌝ }
-    requires { ⌜ Rows (now arity) (now fanins) (now before) (now rows) n m count ⌝ }
+    requires { ⌜ (count ≤ rowWords) × (from ≤ m) ⌝ }
+    requires { ⌜ Begun (now arity) (now fanins) (now before) (now tables) (now rows) n m count from given ⌝ }
     requires { ⌜ Masked (now arity) (now fanins) (now masks) m ⌝ }
-    requires { ⌜ ((g : ℕ) → g < from → getD (now before) g 0 ≡ getD (now tables) g 0) ⌝ }
     ensures { λ _. ⌜ (length (now (rows .exit)) ≡ signalWords) × Rows (now (arity .entry)) (now (fanins .entry)) (now (tables .entry)) (now (rows .exit)) n m count ⌝ }
 {
-    let mut changed: u64 = 0;
+    let mut changed = given;
     let mut h = from;
     while h < m {
         changed = step(
@@ -158,10 +159,36 @@ pub fn update(
     ensures { λ _. ⌜ (length (now (rows .exit)) ≡ signalWords) × Rows (now (arity .entry)) (now (fanins .entry)) (now (tables .entry)) (now (rows .exit)) n m count ⌝ }
 {
     let masks = fanin_masks(n, m, arity, fanins);
-    update_from(n, m, arity, fanins, before, tables, &masks, count, 0, rows);
+    update_from(
+        n,
+        m,
+        arity,
+        fanins,
+        before,
+        tables,
+        &masks,
+        count,
+        0,
+        0,
+        rows,
+    );
 }
 
-// The rows become those where gate g's value is inverted: its table is complemented.
+// The words of signal s the other way round.
+fn complement_row(rows: &[u64; SIGNAL_WORDS], s: usize) -> [u64; ROW_WORDS]
+    requires { ⌜ s < mostSignals ⌝ }
+    ensures { λ l. ⌜ ((w b : ℕ) → w < rowWords → b < 64 → bit (getD l w 0) b ≡ not (bit (getD (now (rows .entry)) (rowWords * s + w) 0) b)) ⌝ }
+{
+    let mut l = [0u64; ROW_WORDS];
+    let mut w = 0;
+    while w < ROW_WORDS {
+        l[w] = bits::complement(rows[ROW_WORDS * s + w]);
+        w += 1;
+    }
+    l
+}
+
+// The rows become those where gate g's value is inverted: its table is complemented, and so is its row.
 pub fn invert(
     n: usize,
     m: usize,
@@ -181,5 +208,19 @@ pub fn invert(
 {
     let mut others = tables;
     others[g] = bits::complement(tables[g]);
-    update_from(n, m, arity, fanins, &tables, &others, masks, count, g, rows);
+    let row = complement_row(rows, n + g);
+    simulate::store_row(rows, n + g, &row);
+    update_from(
+        n,
+        m,
+        arity,
+        fanins,
+        &tables,
+        &others,
+        masks,
+        count,
+        g + 1,
+        bits::power((n + g) as u64),
+        rows,
+    );
 }
