@@ -38,9 +38,9 @@ module _ (q : ℕ → ℕ → Bool) (K : ℕ) where
   pub none-yet : 0 ≡ upTo 0
   none-yet = table-none K
 
-  pub word-more : (w acc r : ℕ) → acc ≡ upTo w → r ≡ tableOf K (λ t. q t w) → bitOr acc r ≡ upTo (w + 1)
-  word-more w acc r ea er =
-      ap₂ bitOr ea er ∙ table-or K (λ t. any w (q t)) (λ t. q t w) ∙ ap upTo (sym (add-one w))
+  pub word-more : (w acc r next : ℕ) → acc ≡ upTo w → r ≡ tableOf K (λ t. q t w) → next ≡ bitOr acc r → next ≡ upTo (w + 1)
+  word-more w acc r next ea er en =
+      en ∙ ap₂ bitOr ea er ∙ table-or K (λ t. any w (q t)) (λ t. q t w) ∙ ap upTo (sym (add-one w))
 
 -- a table of K entries fits in as many bits
 pub below : (K c x : ℕ) (p : ℕ → Bool) → c ≡ K → x ≡ tableOf K p → x < 2 ^ c

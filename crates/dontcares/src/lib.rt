@@ -84,7 +84,7 @@ fn delivered(
             return acc;
         }
         let ins = simulate::gather_at(arity, fanins, rows, g, w);
-        acc = acc | entries::meets(k, &ins, keep[w]);
+        acc = entries::meets(k, &ins, keep[w], acc);
         w += 1;
     }
     acc

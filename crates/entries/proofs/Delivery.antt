@@ -6,7 +6,7 @@ use Prim.Native.Nat.{ℕ, _+_, _*_, _%_, _^_, _<_, _≤_}
 use native.Mathlib.Nat.{mul-comm, lt-of-lt-of-le}
 use native.Mathlib.Omega.{arith}
 use native.Mathlib.Numerals.{add-one}
-use lib.Bits.{bitAnd, bitOr}
+use lib.Bits.{bitAnd, bitOr, or-zero-l}
 use lib.Pow.{shl-exact, pow-mono}
 use lib.Dec.{eqb}
 use lib.ListN.{getD}
@@ -29,16 +29,21 @@ module _ (k j : ℕ) (ins frees : List ℕ) (keep r : ℕ) (arity : k ≡ j) (gi
       ∙ table-ext (2 ^ j) (λ t. any 64 (λ b. bit keep b && gives j ins frees t b)) (λ t. any 64 (λ b. bit keep b && q j t b))
       (λ t h. any-ext 64 (λ b. bit keep b && gives j ins frees t b) (λ b. bit keep b && q j t b) (λ b hb. ap (λ (x : Bool). bit keep b && x) (same t h b))))
 
-  pub by-agreement : r ≡ tableOf (2 ^ k) (λ t. any 64 (λ b. bit keep b && agree k (entryAt k frees b) (entryAt k ins b) t))
+  -- with the entries found
+  pub by-agreement : (found : ℕ) → bitOr found r ≡ bitOr found (tableOf (2 ^ k) (λ t. any 64 (λ b. bit keep b && agree k (entryAt k frees b) (entryAt k ins b) t)))
   unfolding agree
-  by-agreement =
-      tested (λ k t b. agree k (entryAt k frees b) (entryAt k ins b) t)
+  by-agreement found =
+      ap (bitOr found) (tested (λ k t b. agree k (entryAt k frees b) (entryAt k ins b) t)
       (λ t ht b. every-ext j (λ i. bit (getD frees i 0) b || Bool·beq (bit (getD ins i 0) b) (bit t i)) (λ i. bit (entryAt j frees b) i || Bool·beq (bit (entryAt j ins b) i) (bit t i))
-      (λ i h. ap₂ (λ (p q : Bool). p || Bool·beq q (bit t i)) (sym (bit-table j (λ r. bit (getD frees r 0) b) i h)) (sym (bit-table j (λ r. bit (getD ins r 0) b) i h))))
+      (λ i h. ap₂ (λ (p q : Bool). p || Bool·beq q (bit t i)) (sym (bit-table j (λ r. bit (getD frees r 0) b) i h)) (sym (bit-table j (λ r. bit (getD ins r 0) b) i h)))))
 
-  pub by-equality : ((i : ℕ) → i < j → getD frees i 0 ≡ 0) → r ≡ tableOf (2 ^ k) (λ t. any 64 (λ b. bit keep b && eqb (entryAt k ins b) t))
-  by-equality none =
-      tested (λ k t b. eqb (entryAt k ins b) t) (λ t h b. minterm-at ins frees t b j h (λ i hi. ap (λ (x : ℕ). bit x b) (none i hi) ∙ bit-zero b))
+  pub by-equality : (found : ℕ) → ((i : ℕ) → i < j → getD frees i 0 ≡ 0) → bitOr found r ≡ bitOr found (tableOf (2 ^ k) (λ t. any 64 (λ b. bit keep b && eqb (entryAt k ins b) t)))
+  by-equality found none =
+      ap (bitOr found) (tested (λ k t b. eqb (entryAt k ins b) t) (λ t h b. minterm-at ins frees t b j h (λ i hi. ap (λ (x : ℕ). bit x b) (none i hi) ∙ bit-zero b)))
+
+-- where none is found yet
+pub none-found : (found r x : ℕ) → found ≡ 0 → bitOr found r ≡ x → r ≡ x
+none-found found r x e h = sym (ap (λ (f : ℕ). bitOr f r) e ∙ or-zero-l r) ∙ h
 
 -- the entries of k + 1 fan-ins from low and high, those of the first k: with the last one 0, and with it 1
 pub record Halves (ins frees : List ℕ) (keep k low high : ℕ) : Type 0 where

@@ -1,5 +1,5 @@
 -- Rule 7 in words, over plain variables: one gate in one word, and word after word. Assumes nothing.
-use mathlib.Core.Path.{_≡_, sym, ap, ap₂, _∙_}
+use mathlib.Core.Path.{_≡_, refl, sym, ap, ap₂, _∙_}
 use mathlib.Core.Bool.{Bool, not, _&&_}
 use mathlib.Core.List.{List}
 use Prim.Native.Nat.{ℕ, _+_, _-_, _*_, _/_, _%_, _^_, _≤_, _<_}
@@ -18,20 +18,20 @@ use Rattle.opentables.specs.Closed.{closes, closedIn, closesAt, closedBy
 
 -- ## One gate, one word
 
-pub closed-in-is : (ks fs ws hs ins moved : List ℕ) (n live g k keep : ℕ) → k ≡ getD ks g 0
+pub closed-in-is : (ks fs ws hs ins moved : List ℕ) (n live g k keep found r : ℕ) → k ≡ getD ks g 0
     → ((r : ℕ) → r < getD ks g 0 → getD ins r 0 ≡ getD ws (getD fs (gatePlaces * g + r) 0) 0)
     → ((r : ℕ) → r < getD ks g 0 → getD moved r 0 ≡ getD hs (getD fs (gatePlaces * g + r) 0) 0)
     → ((b : ℕ) → b < 64 → bit keep b ≡ (bit live b && not (bit (getD hs (n + g) 0) b)))
-    → tableOf (2 ^ k) (λ t. any 64 (λ b. bit keep b && agree k (entryAt k moved b) (entryAt k ins b) t)) ≡ closedIn ks fs ws hs n live g
+    → r ≡ bitOr found (tableOf (2 ^ k) (λ t. any 64 (λ b. bit keep b && agree k (entryAt k moved b) (entryAt k ins b) t))) → r ≡ bitOr found (closedIn ks fs ws hs n live g)
 unfolding closedIn
-closed-in-is ks fs ws hs ins moved n live g k keep ek ei ef kept =
-    ap (λ (k : ℕ). tableOf (2 ^ k) (λ t. any 64 (λ b. bit keep b && agree k (entryAt k moved b) (entryAt k ins b) t))) ek
+closed-in-is ks fs ws hs ins moved n live g k keep found r ek ei ef kept given =
+    given ∙ ap (bitOr found) (ap (λ (k : ℕ). tableOf (2 ^ k) (λ t. any 64 (λ b. bit keep b && agree k (entryAt k moved b) (entryAt k ins b) t))) ek
     ∙ table-ext (2 ^ K) (λ t. any 64 (λ b. bit keep b && agree K (entryAt K moved b) (entryAt K ins b) t)) (λ t. any 64 (λ b. bit live b && closes ks fs ws hs n g t b))
     (λ t ht. any-ext 64 (λ b. bit keep b && agree K (entryAt K moved b) (entryAt K ins b) t) (λ b. bit live b && closes ks fs ws hs n g t b)
     (λ b hb. ap₂ (λ (u v : Bool). u && v) (kept b hb) (ap₂ (λ (f e : ℕ). agree K f e t)
     (table-ext K (λ r. bit (getD moved r 0) b) (λ r. bit (getD hs (getD fs (gatePlaces * g + r) 0) 0) b) (λ r h. ap (λ (w : ℕ). bit w b) (ef r h)))
     (table-ext K (λ r. bit (getD ins r 0) b) (λ r. bit (getD ws (getD fs (gatePlaces * g + r) 0) 0) b) (λ r h. ap (λ (w : ℕ). bit w b) (ei r h))))
-    ∙ and-assoc (bit live b) (not (bit (getD hs (n + g) 0) b)) (agree K (tableOf K (λ r. bit (getD hs (getD fs (gatePlaces * g + r) 0) 0) b)) (tableOf K (λ r. bit (getD ws (getD fs (gatePlaces * g + r) 0) 0) b)) t)))
+    ∙ and-assoc (bit live b) (not (bit (getD hs (n + g) 0) b)) (agree K (tableOf K (λ r. bit (getD hs (getD fs (gatePlaces * g + r) 0) 0) b)) (tableOf K (λ r. bit (getD ws (getD fs (gatePlaces * g + r) 0) 0) b)) t))))
   where
     K : ℕ
     K = getD ks g 0
@@ -43,11 +43,12 @@ module _ (ks fs rows hs : List ℕ) (n live g : ℕ) where
   unfolding closedBy
   closed-first = by-none (2 ^ getD ks g 0) live (closesAt ks fs rows hs n g)
 
-  pub closed-step : (w acc x : ℕ) → acc ≡ closedBy ks fs rows hs n live w g → x ≡ closedIn ks fs (wordsAt rows w) (wordsAt hs w) n live g
-      → bitOr acc x ≡ closedBy ks fs rows hs n live (w + 1) g
+  pub closed-step : (w acc next : ℕ) → acc ≡ closedBy ks fs rows hs n live w g → next ≡ bitOr acc (closedIn ks fs (wordsAt rows w) (wordsAt hs w) n live g)
+      → next ≡ closedBy ks fs rows hs n live (w + 1) g
   unfolding closedBy closedIn
-  closed-step w acc x e here =
-      by-more (2 ^ getD ks g 0) live (closesAt ks fs rows hs n g) w acc x (λ t b. bit live b && closes ks fs (wordsAt rows w) (wordsAt hs w) n g t b) e here
+  closed-step w acc next e more =
+      more
+      ∙ by-more (2 ^ getD ks g 0) live (closesAt ks fs rows hs n g) w acc (closedIn ks fs (wordsAt rows w) (wordsAt hs w) n live g) (λ t b. bit live b && closes ks fs (wordsAt rows w) (wordsAt hs w) n g t b) e refl
       (λ t ht b hb.
       let i : (w * 64 + b) / 64 ≡ w = omega arith in
       let j : (w * 64 + b) % 64 ≡ b = omega arith in

@@ -1,6 +1,8 @@
 // Of the loaded network: open tables, rule 7, from the rows of the values and of H.
 ghost use mathlib.Core.Path.{_≡_};
-ghost use Prim.Native.Nat.{_+_, _*_, _<_, _≤_};
+ghost use Prim.Native.Nat.{_+_, _*_, _^_, _<_, _≤_};
+ghost use lib.Bits.{bitOr};
+ghost use lib.ListN.{getD};
 ghost use Rattle.bits.specs.Bounds.{mostInputs, rowWords};
 ghost use Rattle.network.specs.Bounds.{mostGates, mostSignals};
 ghost use Rattle.network.specs.Compatible.{compatibleCount, openTables, perGate};
@@ -17,7 +19,7 @@ use network::MOST_GATES;
 use network::SIGNAL_WORDS;
 use network::Session;
 
-// Rule 7 in word w: the entries of gate g that a place of live, outside the gate's own set, delivers.
+// Rule 7 in word w: the entries found, and those of gate g that a place of live, outside the gate's own set, delivers.
 fn closed_in(
     n: usize,
     arity: &[u8; MOST_GATES],
@@ -27,15 +29,16 @@ fn closed_in(
     live: u64,
     g: usize,
     w: usize,
+    found: u64,
 ) -> u64
-    requires { ⌜ (n ≤ mostInputs) × (g < mostGates) × (w < rowWords) ⌝ }
+    requires { ⌜ (n ≤ mostInputs) × (g < mostGates) × (w < rowWords) × (found < 2 ^ 2 ^ getD (now arity) g 0) ⌝ }
     requires { ⌜ GateOk (now arity) (now fanins) g mostSignals ⌝ }
-    ensures { λ r. ⌜ r ≡ closedIn (now (arity .entry)) (now (fanins .entry)) (wordsAt (now (rows .entry)) w) (wordsAt (now (hs .entry)) w) n live g ⌝ }
+    ensures { λ r. ⌜ r ≡ bitOr found (closedIn (now (arity .entry)) (now (fanins .entry)) (wordsAt (now (rows .entry)) w) (wordsAt (now (hs .entry)) w) n live g) ⌝ }
 {
     let ins = simulate::gather_at(arity, fanins, rows, g, w);
     let moved = simulate::gather_at(arity, fanins, hs, g, w);
     let keep = live & bits::complement(hs[ROW_WORDS * (n + g) + w]);
-    entries::reach(network::place(arity[g]), &ins, &moved, keep)
+    entries::reach(network::place(arity[g]), &ins, &moved, keep, found)
 }
 
 // Rule 7 in the first count words. Once all entries are delivered, the words left add none.
@@ -60,7 +63,7 @@ fn closed_by(
         if acc == all {
             return acc;
         }
-        acc = acc | closed_in(n, arity, fanins, rows, hs, live, g, w);
+        acc = closed_in(n, arity, fanins, rows, hs, live, g, w, acc);
         w += 1;
     }
     acc

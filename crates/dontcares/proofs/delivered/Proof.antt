@@ -1,14 +1,15 @@
 -- `dontcares::delivered` meets its contract. Assumes nothing.
 use borrow.Author.Needs.{needs}
 use mathlib.Core.Path.{_≡_, ap, _∙_}
-use mathlib.Core.List.{List}
+use mathlib.Core.List.{List, []}
 use Prim.Native.Nat.{ℕ, _-_, _^_, _≤_}
 use native.Mathlib.Omega.{arith}
 use lib.ListN.{getD}
 use denote.Ref.{now}
+use Rattle.bits.specs.Range.{any}
 use Rattle.bits.proofs.Cuts.{all-there}
 use Rattle.network.specs.Bounds.{mostFanins}
-use Rattle.dontcares.proofs.TableLaws.{delivers, upTo, none-yet, word-more, word-delivers}
+use Rattle.dontcares.proofs.TableLaws.{delivers, upTo, none-yet, word-more, word-delivers, below}
 use Rattle.dontcares.proofs.delivered.Statement.{statement}
 use Rattle.dontcares.proofs.delivered.Tie as tie
 
@@ -64,7 +65,11 @@ element-copy-out-meets c = search needs
 
 meets-requires : tie.Need-meets-requires Inv-loop μ-loop
 meets-requires c κs =
-    few (c .before .before .before .before .before .before .before .before)
+    let l = c .before .before .before .before .before in
+    let pl = l .before .before .before in
+    let a = pl .before .before .args in
+    let small = few pl in
+    (small .0, small .1, below (2 ^ getD (now (a .arity)) (a .g) 0) (2 ^ pl .place .result) (l .loop .acc) (λ t. any (l .loop .w) (delivers (now (a .arity)) (now (a .fanins)) [] (now (a .rows)) (now (a .keep)) (a .g) t)) (ap (λ (k : ℕ). 2 ^ k) (pl .place .ensures)) (l .loop .inv .1 []))
 
 add-w : tie.Need-add-w Inv-loop μ-loop
 add-w c = search needs
@@ -79,8 +84,8 @@ loop-again c =
     let pl = l .before .before .before in
     let a = pl .before .before .args in (
       omega arith,
-      λ ts. word-more (delivers (now (a .arity)) (now (a .fanins)) ts (now (a .rows)) (now (a .keep)) (a .g)) (2 ^ getD (now (a .arity)) (a .g) 0) (l .loop .w) (l .loop .acc) (c .meets .result) (l .loop .inv .1 ts)
-          (c .meets .ensures ∙ word-delivers (now (a .arity)) (now (a .fanins)) ts (now (a .rows)) (now (a .keep)) (ga .gather-at .result) (a .g) (pl .place .result) (l .loop .w) (pl .place .ensures) (ga .gather-at .ensures)),
+      λ ts. word-more (delivers (now (a .arity)) (now (a .fanins)) ts (now (a .rows)) (now (a .keep)) (a .g)) (2 ^ getD (now (a .arity)) (a .g) 0) (l .loop .w) (l .loop .acc) _ (c .meets .result) (l .loop .inv .1 ts)
+          (word-delivers (now (a .arity)) (now (a .fanins)) ts (now (a .rows)) (now (a .keep)) (ga .gather-at .result) (a .g) (pl .place .result) (l .loop .w) (pl .place .ensures) (ga .gather-at .ensures)) (c .meets .ensures),
     )
 
 returns-2 : tie.Need-returns-2 Inv-loop μ-loop

@@ -5,7 +5,7 @@ use Prim.Native.Nat.{ℕ, _-_, _^_, _≤_}
 use native.Mathlib.Omega.{arith}
 use denote.Ref.{now}
 use Rattle.opentables.specs.Closed.{closedBy}
-use Rattle.opentables.proofs.ClosedWords.{closed-first, closed-step, closed-all}
+use Rattle.opentables.proofs.ClosedWords.{closed-first, closed-step, closed-all, closed-lt}
 use Rattle.opentables.proofs.closed_by.Statement.{statement}
 use Rattle.opentables.proofs.closed_by.Tie as tie
 
@@ -42,8 +42,11 @@ returns c =
 
 closed-in-requires : tie.Need-closed-in-requires Inv-loop μ-loop
 closed-in-requires c κs =
-    let s = c .before .before .before .before .before .before .before in
-    ((s .pre .0 .0, s .pre .0 .1, omega arith), s .pre .1)
+    let l = c .before .before in
+    let s = l .before .before .before .before .before in
+    let a = s .args in
+    let room = closed-lt (now (a .arity)) (now (a .fanins)) (now (a .rows)) (now (a .hs)) (a .n) (a .live) (a .g) (l .loop .w) (l .loop .acc) (l .loop .inv .1) in
+    ((s .pre .0 .0, s .pre .0 .1, omega arith, room), s .pre .1)
 
 add-w : tie.Need-add-w Inv-loop μ-loop
 add-w c = search needs

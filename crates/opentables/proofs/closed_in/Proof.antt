@@ -1,8 +1,8 @@
 -- `opentables::closed_in` meets its contract. Assumes nothing.
 use borrow.Author.Needs.{needs}
-use mathlib.Core.Path.{sym, ap, _∙_}
+use mathlib.Core.Path.{sym, ap, _∙_, subst}
 use mathlib.Core.Bool.{Bool, not, _&&_}
-use Prim.Native.Nat.{ℕ, _+_}
+use Prim.Native.Nat.{ℕ, _+_, _^_, _<_}
 use native.Mathlib.Omega.{arith}
 use lib.Bits.{bitAnd}
 use denote.Ref.{now}
@@ -45,7 +45,10 @@ place-requires : tie.Need-place-requires
 place-requires c κs = search needs
 
 reach-requires : tie.Need-reach-requires
-reach-requires c κs = search needs
+reach-requires c κs =
+    let pl = c .before .before in
+    let s = pl .before .before .before .before .before .before in
+    (omega (arith, pl .place .ensures, s .pre .1 .some), omega (arith, pl .place .ensures, s .pre .1 .few), subst (λ (k : ℕ). s .args .found < 2 ^ 2 ^ k) (sym (pl .place .ensures)) (s .pre .0 .3))
 
 returns : tie.Need-returns
 returns c =
@@ -54,11 +57,11 @@ returns c =
     let g2 = i .before .before in
     let g1 = g2 .before in
     let a = g1 .before .args in
-    c .reach .ensures
-    ∙ closed-in-is (now (a .arity)) (now (a .fanins)) (wordsAt (now (a .rows)) (a .w)) (wordsAt (now (a .hs)) (a .w)) (g1 .gather-at .result) (g2 .gather-at2 .result) (a .n) (a .live) (a .g) (pl .place .result) (bitAnd (a .live) (i .complement .result))
+    closed-in-is (now (a .arity)) (now (a .fanins)) (wordsAt (now (a .rows)) (a .w)) (wordsAt (now (a .hs)) (a .w)) (g1 .gather-at .result) (g2 .gather-at2 .result) (a .n) (a .live) (a .g) (pl .place .result) (bitAnd (a .live) (i .complement .result)) (a .found) (c .reach .result)
     (pl .place .ensures) (g1 .gather-at .ensures) (g2 .gather-at2 .ensures)
     (λ b h. bit-and (a .live) (i .complement .result) b
     ∙ ap (λ (x : Bool). bit (a .live) b && x) (i .complement .ensures b h ∙ ap (λ (y : ℕ). not (bit y b)) (sym (words-at (now (a .hs)) (a .w) (a .n + a .g) (omega arith)))))
+    (c .reach .ensures)
 
 pub closed-in-spec : {M : Type 1} → statement M
 closed-in-spec =
