@@ -30,7 +30,7 @@ use Rattle.network.proofs.ByTest.{Before, room-by, state-by, gate-by, table-by,
 use Rattle.blif.specs.Write.{blifText}
 use Rattle.bliftrip.proofs.Ends.{copies-by}
 use Rattle.render.specs.Listing.{listingOf, listingInto}
-use Rattle.engine.specs.Demands.{allInPlace}
+use Rattle.demands.specs.Demands.{allInPlace}
 use Rattle.packed.specs.Packed.{packedOf, sessionWords, sessionIn, wordsTest}
 use Rattle.packed.proofs.Inverse.{packed-length}
 use Rattle.boundary.specs.Boundary.{valuesFor, left, tableWords, tablesRoom, tablesWork, allTableWords, verdictWork, exchangeWork, writeBlifWork, readAnswer, readCall, loadCall, readBlifCall, listingCall, tablesCall, allTablesCall, patternSetsCall, hiddenCall, verdictCall, exchangeCall, writeCall, writeBlifCall}

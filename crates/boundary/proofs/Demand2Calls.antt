@@ -43,9 +43,9 @@ use Rattle.network.proofs.Lists.{pairs-back, lengths-fine, signals-back, tables
 use Rattle.render.specs.Listing.{listingOf, listingInto}
 use Rattle.blif.specs.Write.{outgoing, blifText, copiesTest}
 use Rattle.bliftrip.specs.Trip.{Survives}
-use Rattle.engine.specs.Demands.{allInPlace, Changes}
-use Rattle.engine.proofs.SdcWords.{sdc-entries}
-use Rattle.engine.proofs.Demands.{demand2}
+use Rattle.demands.specs.Demands.{allInPlace, Changes}
+use Rattle.demands.proofs.SdcWords.{sdc-entries}
+use Rattle.demands.proofs.Demands.{demand2}
 use Rattle.roundtrip.proofs.RoundTrip.{round-trip}
 use Rattle.packed.specs.Packed.{packedOf, excludedStart, sessionWords, part, sessionIn, wordsTest}
 use Rattle.packed.proofs.Inverse.{packed-back}

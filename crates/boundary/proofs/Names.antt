@@ -18,7 +18,7 @@ use Rattle.network.specs.State.{stateTest}
 use Rattle.network.specs.Calls.{gateTest, tableTest, roomTest}
 use Rattle.network.proofs.Said.{told-by}
 use Rattle.network.proofs.ByTest.{room-by, state-by, gate-by, table-by, Each, first-by}
-use Rattle.engine.specs.Demands.{Numbered}
+use Rattle.demands.specs.Demands.{Numbered}
 use Rattle.packed.specs.Packed.{wordsTest}
 use Rattle.boundary.specs.Boundary.{numberFor, valuesFor}
 use Rattle.boundary.proofs.Tested.{words-by}

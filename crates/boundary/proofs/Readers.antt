@@ -20,9 +20,9 @@ use Rattle.network.specs.Calls.{roomTest}
 use Rattle.network.proofs.Reached.{done-whole, loaded-sized}
 use Rattle.blif.specs.Read.{readBlifOf}
 use Rattle.bliftrip.proofs.Gives.{text-shaped}
-use Rattle.engine.specs.Demands as engine
-use Rattle.engine.proofs.Demands.{demand1}
-use Rattle.engine.proofs.Outcomes.{file}
+use Rattle.demands.specs.Demands as demands
+use Rattle.demands.proofs.Demands.{demand1}
+use Rattle.demands.proofs.Outcomes.{file}
 use Rattle.packed.specs.Packed.{packedOf, sessionWords}
 use Rattle.packed.proofs.Inverse.{packed-length}
 use Rattle.boundary.specs.Boundary.{valuesFor, readAnswer, readCall}
@@ -47,11 +47,11 @@ read-room l session z h = let n = packed-length (l .session) z in omega arith
 -- what one of them reads: its refusals, and the lengths of its session
 pub record Reader (l : Loaded) (ns : List ℕ) : Type 0 where
   pub session : Session
-  pub ends : engine.Ends l (loadDone session) ns loadRefused
+  pub ends : demands.Ends l (loadDone session) ns loadRefused
   pub none : valuesFor (l .answer) [] ≡ []
   pub sized : l .answer ≡ Done → Sized (l .session)
 
-reader : (l : Loaded) (ns : List ℕ) (s : Session) → engine.Ends l (loadDone s) ns loadRefused → member 13 ns ≡ false → member 14 ns ≡ false
+reader : (l : Loaded) (ns : List ℕ) (s : Session) → demands.Ends l (loadDone s) ns loadRefused → member 13 ns ≡ false → member 14 ns ≡ false
     → (l ≡ loadDone (l .session) → Sized (l .session)) → Reader l ns
 reader l ns s ends no13 no14 sized = record {
   session = s;

@@ -31,7 +31,7 @@ use Rattle.roundtrip.specs.OldFile.{oldLoadOf, oldBytesOf}
 use Rattle.blif.specs.Read.{readBlifOf}
 use Rattle.blif.specs.Write.{outgoing, blifText, copiesTest}
 use Rattle.bliftrip.specs.Trip.{Survives}
-use Rattle.engine.specs.Demands.{allInPlace, Changes}
+use Rattle.demands.specs.Demands.{allInPlace, Changes}
 use Rattle.render.specs.Listing.{listingOf}
 use Rattle.packed.specs.Packed.{packedOf, sessionWords, sessionIn, wordsTest}
 use Rattle.boundary.specs.Boundary.{Left, tableWords, allTableWords, readCall, loadCall, readBlifCall, listingCall, tablesCall, allTablesCall, patternSetsCall, hiddenCall, verdictCall, verdictCallOn, exchangeCall, writeCall, writeBlifCall}

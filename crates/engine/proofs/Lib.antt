@@ -1,4 +1,1 @@
 pub mod ByAnswer
-pub mod SdcWords
-pub mod Outcomes
-pub mod Demands

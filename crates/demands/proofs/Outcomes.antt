@@ -18,7 +18,7 @@ use Rattle.network.specs.Bounds.{mostGates, mostOutputs, excludedWords}
 use Rattle.network.specs.Tests.{refuseIf, first, lengthTest, mark, markTest, rangeTest, member, faninTest, faninsTest, widthTest, excludedTest, outputTest}
 use Rattle.network.specs.Load.{started, onward, outputTests, outputRecord, withOutput, readOutputs, faninsIn, afterFanins, formOf, tableIn, gateTests, gateRecord, withGate, readGates, setBytes, excludedIn, withExcluded, isExcluded, excludedTests, excludedRecord, readBody, headerTests, headerRecord, readOf}
 use Rattle.network.proofs.ByTest.{if-by, or-by, Each, first-by}
-use Rattle.engine.specs.Demands.{Numbered, Ends}
+use Rattle.demands.specs.Demands.{Numbered, Ends}
 
 -- ## Answers
 

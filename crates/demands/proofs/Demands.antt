@@ -44,9 +44,9 @@ use Rattle.bliftrip.proofs.Covers.{blif-cover}
 use Rattle.bliftrip.proofs.Gives.{text-fresh, text-shaped}
 use Rattle.bliftrip.proofs.SameWords.{blif-words, blif-file, blif-fresh}
 use Rattle.bliftrip.proofs.Ends.{read-by, copies-by}
-use Rattle.engine.specs.Demands.{Ends, Demand1, allInPlace, Changes, Judged, Reached, Demand2, Demand3}
-use Rattle.engine.proofs.SdcWords.{sdc-entries, sdc-one-word}
-use Rattle.engine.proofs.Outcomes.{file, Among, ends, tests-end, read-among}
+use Rattle.demands.specs.Demands.{Ends, Demand1, allInPlace, Changes, Judged, Reached, Demand2, Demand3}
+use Rattle.demands.proofs.SdcWords.{sdc-entries, sdc-one-word}
+use Rattle.demands.proofs.Outcomes.{file, Among, ends, tests-end, read-among}
 
 -- ## Calls that fill a buffer with new words or bytes
 

@@ -1,0 +1,3 @@
+pub mod SdcWords
+pub mod Outcomes
+pub mod Demands
