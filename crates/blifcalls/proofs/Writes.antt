@@ -18,11 +18,11 @@ use Rattle.network.specs.Calls.{roomTest, filled, Written, withLength}
 use Rattle.network.proofs.TestLaws.{alone, stopped, went-on}
 use Rattle.blif.specs.Write.{blifText, copiesTest, writeBlifOf}
 use Rattle.bliftrip.proofs.Ends.{copies-by}
-use Rattle.boundary.specs.Boundary.{left, writeBlifWork}
-use Rattle.boundary.proofs.Tested.{room-i}
-use Rattle.boundary.proofs.Names.{NamesMost, names-first, names-room}
-use Rattle.boundary.proofs.Leaves.{Leaves, refused, worked, room-passed}
-use Rattle.boundary.proofs.Fills.{fills, written, unwritten}
+use Rattle.promises.specs.Boundary.{left, writeBlifWork}
+use Rattle.promises.proofs.Tested.{room-i}
+use Rattle.promises.proofs.Names.{NamesMost, names-first, names-room}
+use Rattle.promises.proofs.Leaves.{Leaves, refused, worked, room-passed}
+use Rattle.promises.proofs.Fills.{fills, written, unwritten}
 
 -- of `out` nothing is asked at first
 pub unasked : (a : Answer) (out : List ℕ) → a ≡ first (a ∷ roomTest 0 out ∷ [])

@@ -1,7 +1,7 @@
 // Other languages: the calls on a BLIF text. A session from a text, and the text of a session.
 ghost use mathlib.Core.Path.{_≡_};
 ghost use mathlib.Core.List.{[]};
-ghost use Rattle.boundary.specs.Boundary.{readBlifCall, writeBlifCall};
+ghost use Rattle.promises.specs.Boundary.{readBlifCall, writeBlifCall};
 use network::Answer;
 use network::WriteAnswer;
 
@@ -9,7 +9,7 @@ use network::WriteAnswer;
 pub fn read_blif(text: &[u8], session: &mut [u64]) -> u64
     ensures { λ r. ⌜ record { number = r; buffer = now (session .exit); out = [] } ≡ readBlifCall (now (text .entry)) (now (session .entry)) ⌝ }
 {
-    boundary::put_read(engine::read_blif(text), session)
+    boundary::put_read(loading::read_blif(text), session)
 }
 
 // The text, and its length. The copies are counted before `out` is asked for.

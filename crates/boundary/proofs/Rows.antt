@@ -15,7 +15,7 @@ use Rattle.network.specs.DontCares.{sdc}
 use Rattle.network.specs.Flat.{currentNet}
 use Rattle.network.specs.Calls.{sdcWords}
 use Rattle.dontcares.specs.Tabled.{Tabled}
-use Rattle.boundary.specs.Boundary.{allTableWords, tablesRoom}
+use Rattle.promises.specs.Boundary.{allTableWords, tablesRoom}
 
 module _ (s : Session) (g : ℕ) {b b₁ : List ℕ} (l : Laid b 0 (allTableWords s g) b₁ (tablesRoom * g)) where
   pub row-room : g < s .m → tablesRoom * s .m ≤ length b → tablesRoom * g + tablesRoom ≤ length b₁

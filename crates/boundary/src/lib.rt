@@ -1,4 +1,4 @@
-// Other languages: what the calls say, in specs/, and share.
+// Other languages: what the calls share.
 ghost use mathlib.Core.Path.{_≡_};
 ghost use mathlib.Core.List.{[], _∷_};
 ghost use Prim.Native.Nat.{_*_, _≤_};
@@ -10,7 +10,7 @@ ghost use Rattle.network.specs.declared.Refusal.the-variants.{BufferTooShort};
 ghost use Rattle.network.specs.Refusals.{numberOf, valuesOf};
 ghost use Rattle.network.specs.Tests.{refuseIf, first};
 ghost use Rattle.network.specs.State.{stateFault};
-ghost use Rattle.boundary.specs.Boundary.{valuesFor, readCall, allTableWords, tablesRoom};
+ghost use Rattle.promises.specs.Boundary.{valuesFor, readCall, allTableWords, tablesRoom};
 use network::Answer;
 use network::Loaded;
 use network::Refusal;

@@ -16,9 +16,9 @@ use Rattle.network.specs.State.{stateTest}
 use Rattle.network.specs.Calls.{harmTest, heldClosed, exchangeTests, exchangeAnswer, lengthsTest, pairs, pairsTest, verdictOf}
 use Rattle.network.proofs.TestLaws.{alone}
 use Rattle.network.proofs.ByTest.{closed-by, harm-by, lengths-by, pairs-by}
-use Rattle.boundary.specs.Boundary.{left}
-use Rattle.boundary.proofs.Names.{NamesMost, names-first, names-state, names-gate, names-table}
-use Rattle.boundary.proofs.Leaves.{Leaves, refused-with, done}
+use Rattle.promises.specs.Boundary.{left}
+use Rattle.promises.proofs.Names.{NamesMost, names-first, names-state, names-gate, names-table}
+use Rattle.promises.proofs.Leaves.{Leaves, refused-with, done}
 
 -- ## What the answers name
 

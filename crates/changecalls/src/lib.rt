@@ -1,7 +1,7 @@
 // Other languages: the calls on replacements: the verdict on a list of them, and the exchange of one.
 ghost use mathlib.Core.Path.{_≡_};
 ghost use mathlib.Core.List.{[]};
-ghost use Rattle.boundary.specs.Boundary.{verdictCall, exchangeCall};
+ghost use Rattle.promises.specs.Boundary.{verdictCall, exchangeCall};
 use network::Answer;
 
 // Harm that the gates do with these tables, all of them in place.

@@ -1,6 +1,6 @@
 -- The user's three demands, each as one type, over the definitions that the calls' contracts cite. Assumes nothing.
--- A call of crate `engine` gives what its definition gives: load loadOf, tables tablesOf, pattern_sets patternSetsOf, exchange exchangeOf,
--- verdict verdictOf, write writtenOf, counts countsOf, load_counted countedOf, read_blif readBlifOf, write_blif writeBlifOf.
+-- A call of crate `loading` or `engine` gives what its definition gives: load loadOf, read_blif readBlifOf, load_counted countedOf; tables
+-- tablesOf, pattern_sets patternSetsOf, exchange exchangeOf, verdict verdictOf, write writtenOf, counts countsOf, write_blif writeBlifOf.
 use mathlib.Core.Path.{_≡_}
 use mathlib.Core.Logic.{_⊎_, _↔_}
 use mathlib.Core.Bool.{true, false, not}

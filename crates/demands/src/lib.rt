@@ -1,2 +1,2 @@
-// The three demands, of what the calls of crate `engine` give: stated in specs/Demands.antt and proved in proofs/, over the definitions that
-// the contracts of the calls cite, without code.
+// The three demands, of what the calls of crates `loading` and `engine` give: stated in specs/Demands.antt and proved in proofs/, over the
+// definitions that the contracts of the calls cite, without code.

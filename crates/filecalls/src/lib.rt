@@ -1,7 +1,7 @@
 // Other languages: the calls on a file. A session from its bytes, its bytes from a session, its listing.
 ghost use mathlib.Core.Path.{_≡_};
 ghost use mathlib.Core.List.{[]};
-ghost use Rattle.boundary.specs.Boundary.{loadCall, writeCall, listingCall};
+ghost use Rattle.promises.specs.Boundary.{loadCall, writeCall, listingCall};
 use network::Answer;
 use network::WriteAnswer;
 
@@ -9,7 +9,7 @@ use network::WriteAnswer;
 pub fn load(file: &[u8], session: &mut [u64]) -> u64
     ensures { λ r. ⌜ record { number = r; buffer = now (session .exit); out = [] } ≡ loadCall (now (file .entry)) (now (session .entry)) ⌝ }
 {
-    boundary::put_read(engine::load(file), session)
+    boundary::put_read(loading::load(file), session)
 }
 
 // The file's bytes, and its length.

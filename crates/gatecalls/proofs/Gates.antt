@@ -29,9 +29,9 @@ use Rattle.network.specs.Calls.{gateTest, gateTables, givenTables, tablesOf, co
 use Rattle.network.proofs.Valid.{state-e, net-ok}
 use Rattle.network.proofs.CountLaws.{counts-at}
 use Rattle.answers.proofs.Given.{counts-done}
-use Rattle.boundary.specs.Boundary.{tableWords, tablesWork}
-use Rattle.boundary.proofs.Names.{names-first, names-gate}
-use Rattle.boundary.proofs.Leaves.{Leaves, refused, done, worked}
+use Rattle.promises.specs.Boundary.{tableWords, tablesWork}
+use Rattle.promises.proofs.Names.{names-first, names-gate}
+use Rattle.promises.proofs.Leaves.{Leaves, refused, done, worked}
 
 -- ## Tables of a gate
 

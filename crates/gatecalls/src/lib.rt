@@ -1,7 +1,7 @@
 // Other languages: the calls that tell what the gates of a session have: tables, pattern sets, counts.
 ghost use mathlib.Core.Path.{_≡_};
 ghost use mathlib.Core.List.{[]};
-ghost use Rattle.boundary.specs.Boundary.{tablesCall, allTablesCall, patternSetsCall, hiddenCall};
+ghost use Rattle.promises.specs.Boundary.{tablesCall, allTablesCall, patternSetsCall, hiddenCall};
 use network::Answer;
 use network::TablesAnswer;
 

@@ -94,7 +94,7 @@ pub fn judge(file: &[u8], o: Order) -> Judged
     requires { ⌜ countIn (o .case) ≤ mostPairs ⌝ }
     ensures { λ r. ⌜ r ≡ judgedOf (now (file .entry)) (replacementsIn o) ⌝ }
 {
-    let l = engine::load(file);
+    let l = loading::load(file);
     let a = l.answer;
     let s = l.session;
     if let Answer::Refused(r) = a {

@@ -29,8 +29,8 @@ use Rattle.network.proofs.Fresh.{Fresh}
 use Rattle.network.proofs.Reached.{loaded-fresh}
 use Rattle.network.proofs.Exchanges.{loaded-length, loaded-inputs, open-at}
 use Rattle.dontcares.specs.Tabled.{Tabled}
-use Rattle.engine.specs.declared.Counted.{Counted}
-use Rattle.engine.specs.Counted.{countedOf}
+use Rattle.loading.specs.declared.Counted.{Counted}
+use Rattle.loading.specs.Counted.{countedOf}
 use Rattle.tabletext.specs.Digits.{digits}
 use Rattle.tabletext.proofs.DigitLaws.{digits-few}
 use Rattle.render.specs.declared.Columns.{Columns}

@@ -156,7 +156,7 @@ pub fn put_listing(buf: &mut [u8], bytes: &[u8]) -> usize
     requires { ⌜ mostListingBytes ≤ length (now buf) ⌝ }
     ensures { λ r. ⌜ Laid (now (buf .entry)) 0 (listingOf (now (bytes .entry))) (now (buf .exit)) r ⌝ }
 {
-    let c = engine::load_counted(bytes);
+    let c = loading::load_counted(bytes);
     let l = c.loaded;
     let a = l.answer;
     if let Answer::Refused(r) = a {

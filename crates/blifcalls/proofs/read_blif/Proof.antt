@@ -3,8 +3,8 @@ use mathlib.Core.Path.{_≡_, sym, ap, subst, _∙_}
 use mathlib.Core.List.{[]}
 use borrow.Author.Needs.{needs}
 use Rattle.network.specs.declared.Loaded.{Loaded}
-use Rattle.boundary.specs.Boundary.{Left, valuesFor, readCall, readBlifCall}
-use Rattle.boundary.proofs.Readers.{blif-reader}
+use Rattle.promises.specs.Boundary.{Left, valuesFor, readCall, readBlifCall}
+use Rattle.promises.proofs.Readers.{blif-reader}
 use Rattle.blifcalls.proofs.read_blif.Statement.{statement}
 use Rattle.blifcalls.proofs.read_blif.Tie as tie
 

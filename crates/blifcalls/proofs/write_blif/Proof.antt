@@ -11,8 +11,8 @@ use Rattle.network.specs.State.{stateTest}
 use Rattle.network.specs.Calls.{roomTest}
 use Rattle.network.proofs.Valid.{state-e}
 use Rattle.blif.specs.Write.{copiesTest}
-use Rattle.boundary.specs.Boundary.{writeBlifWork, writeBlifCall}
-use Rattle.boundary.proofs.Leaves.{Leaves, worked, room-passed, down, opens}
+use Rattle.promises.specs.Boundary.{writeBlifWork, writeBlifCall}
+use Rattle.promises.proofs.Leaves.{Leaves, worked, room-passed, down, opens}
 use Rattle.blifcalls.proofs.Writes.{unasked, early, given, short}
 use Rattle.blifcalls.proofs.write_blif.Statement.{statement}
 use Rattle.blifcalls.proofs.write_blif.Tie as tie

@@ -1,8 +1,8 @@
 -- `boundary::put_read` meets its contract. Assumes nothing.
 use borrow.Author.Needs.{needs}
 use Rattle.packed.specs.Packed.{sessionWords}
-use Rattle.boundary.proofs.Leaves.{room-passed}
-use Rattle.boundary.proofs.Readers.{read-refused, read-done}
+use Rattle.promises.proofs.Leaves.{room-passed}
+use Rattle.promises.proofs.Readers.{read-refused, read-done}
 use Rattle.boundary.proofs.put_read.Statement.{statement}
 use Rattle.boundary.proofs.put_read.Tie as tie
 

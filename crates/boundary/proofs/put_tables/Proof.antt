@@ -8,7 +8,7 @@ use Rattle.buffer.proofs.Laying.{laid-length}
 use Rattle.network.specs.Bounds.{mostGates}
 use Rattle.network.proofs.TestLaws.{count-e}
 use Rattle.network.proofs.Valid.{valid-e}
-use Rattle.boundary.specs.Boundary.{allTableWords, tablesRoom}
+use Rattle.promises.specs.Boundary.{allTableWords, tablesRoom}
 use Rattle.boundary.proofs.Rows.{row-room, row-next, rows-done}
 use Rattle.boundary.proofs.put_tables.Statement.{statement}
 use Rattle.boundary.proofs.put_tables.Tie as tie

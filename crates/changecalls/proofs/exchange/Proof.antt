@@ -12,9 +12,9 @@ use Rattle.network.specs.Calls.{stored, withCurrent}
 use Rattle.network.proofs.Valid.{state-e}
 use Rattle.answers.proofs.Named.{exchange-named}
 use Rattle.packed.specs.Packed.{packedOf}
-use Rattle.boundary.specs.Boundary.{exchangeWork, exchangeCall}
-use Rattle.boundary.proofs.Names.{named-room}
-use Rattle.boundary.proofs.Leaves.{down, opens}
+use Rattle.promises.specs.Boundary.{exchangeWork, exchangeCall}
+use Rattle.promises.proofs.Names.{named-room}
+use Rattle.promises.proofs.Leaves.{down, opens}
 use Rattle.changecalls.proofs.Judged.{names-exchange, judged-refused, judged-done}
 use Rattle.changecalls.proofs.exchange.Statement.{statement}
 use Rattle.changecalls.proofs.exchange.Tie as tie

@@ -3,9 +3,9 @@ use mathlib.Core.Path.{refl, sym, _∙_}
 use mathlib.Core.List.{[]}
 use borrow.Author.Needs.{needs}
 use Rattle.network.proofs.Valid.{state-e}
-use Rattle.boundary.specs.Boundary.{verdictWork, verdictCall}
-use Rattle.boundary.proofs.Names.{named-room}
-use Rattle.boundary.proofs.Leaves.{down, opens}
+use Rattle.promises.specs.Boundary.{verdictWork, verdictCall}
+use Rattle.promises.proofs.Names.{named-room}
+use Rattle.promises.proofs.Leaves.{down, opens}
 use Rattle.changecalls.proofs.Judged.{names-verdict, judged-refused, judged-done}
 use Rattle.changecalls.proofs.verdict.Statement.{statement}
 use Rattle.changecalls.proofs.verdict.Tie as tie

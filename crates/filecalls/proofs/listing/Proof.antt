@@ -4,9 +4,9 @@ use borrow.Author.Needs.{needs}
 use borrow.Author.Tests.{lt-ltb, le-ltb}
 use Rattle.network.specs.Calls.{roomTest}
 use Rattle.render.specs.Listing.{listingOf, listingInto}
-use Rattle.boundary.specs.Boundary.{listingCall}
-use Rattle.boundary.proofs.Names.{names-room}
-use Rattle.boundary.proofs.Fills.{written, unwritten}
+use Rattle.promises.specs.Boundary.{listingCall}
+use Rattle.promises.proofs.Names.{names-room}
+use Rattle.promises.proofs.Fills.{written, unwritten}
 use Rattle.filecalls.proofs.listing.Statement.{statement}
 use Rattle.filecalls.proofs.listing.Tie as tie
 

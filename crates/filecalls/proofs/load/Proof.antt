@@ -3,8 +3,8 @@ use mathlib.Core.Path.{_≡_, sym, ap, subst, _∙_}
 use mathlib.Core.List.{[]}
 use borrow.Author.Needs.{needs}
 use Rattle.network.specs.declared.Loaded.{Loaded}
-use Rattle.boundary.specs.Boundary.{Left, valuesFor, readCall, loadCall}
-use Rattle.boundary.proofs.Readers.{load-reader}
+use Rattle.promises.specs.Boundary.{Left, valuesFor, readCall, loadCall}
+use Rattle.promises.proofs.Readers.{load-reader}
 use Rattle.filecalls.proofs.load.Statement.{statement}
 use Rattle.filecalls.proofs.load.Tie as tie
 

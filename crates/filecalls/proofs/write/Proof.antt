@@ -7,9 +7,9 @@ use Rattle.network.specs.State.{stateTest}
 use Rattle.network.specs.Write.{bytesOf}
 use Rattle.network.specs.Calls.{roomTest, writeOf, writtenOf}
 use Rattle.network.proofs.Valid.{state-e}
-use Rattle.boundary.specs.Boundary.{writeWork, writeCall}
-use Rattle.boundary.proofs.Leaves.{down, opens}
-use Rattle.boundary.proofs.Fills.{written, unwritten, names-filling}
+use Rattle.promises.specs.Boundary.{writeWork, writeCall}
+use Rattle.promises.proofs.Leaves.{down, opens}
+use Rattle.promises.proofs.Fills.{written, unwritten, names-filling}
 use Rattle.filecalls.proofs.write.Statement.{statement}
 use Rattle.filecalls.proofs.write.Tie as tie
 

@@ -3,8 +3,8 @@ use mathlib.Core.Path.{refl}
 use mathlib.Core.List.{[]}
 use borrow.Author.Needs.{needs}
 use Rattle.network.proofs.Valid.{state-e}
-use Rattle.boundary.specs.Boundary.{allTablesWork, allTablesCall}
-use Rattle.boundary.proofs.Leaves.{done, down, opens}
+use Rattle.promises.specs.Boundary.{allTablesWork, allTablesCall}
+use Rattle.promises.proofs.Leaves.{done, down, opens}
 use Rattle.gatecalls.proofs.all_tables.Statement.{statement}
 use Rattle.gatecalls.proofs.all_tables.Tie as tie
 

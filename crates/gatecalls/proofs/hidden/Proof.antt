@@ -5,8 +5,8 @@ use Prim.Native.Nat.{ℕ}
 use borrow.Author.Needs.{needs}
 use Rattle.bits.specs.Lists.{overwritten}
 use Rattle.network.proofs.Valid.{state-e}
-use Rattle.boundary.specs.Boundary.{hiddenWork, hiddenCall}
-use Rattle.boundary.proofs.Leaves.{done, down, opens}
+use Rattle.promises.specs.Boundary.{hiddenWork, hiddenCall}
+use Rattle.promises.proofs.Leaves.{done, down, opens}
 use Rattle.gatecalls.proofs.Gates.{counts-long, counts-part, counts-few}
 use Rattle.gatecalls.proofs.hidden.Statement.{statement}
 use Rattle.gatecalls.proofs.hidden.Tie as tie

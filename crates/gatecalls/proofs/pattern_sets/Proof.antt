@@ -8,9 +8,9 @@ use Rattle.network.specs.State.{stateTest}
 use Rattle.network.specs.Calls.{roomTest, setWords, patternSetsOf}
 use Rattle.network.proofs.TestLaws.{alone}
 use Rattle.network.proofs.Valid.{state-e}
-use Rattle.boundary.specs.Boundary.{patternSetsWork, patternSetsCall}
-use Rattle.boundary.proofs.Leaves.{down, opens}
-use Rattle.boundary.proofs.Fills.{filled-refused, filled-done, names-filling}
+use Rattle.promises.specs.Boundary.{patternSetsWork, patternSetsCall}
+use Rattle.promises.proofs.Leaves.{down, opens}
+use Rattle.promises.proofs.Fills.{filled-refused, filled-done, names-filling}
 use Rattle.gatecalls.proofs.pattern_sets.Statement.{statement}
 use Rattle.gatecalls.proofs.pattern_sets.Tie as tie
 

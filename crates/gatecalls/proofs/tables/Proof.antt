@@ -2,8 +2,8 @@
 use mathlib.Core.List.{[]}
 use borrow.Author.Needs.{needs}
 use Rattle.network.proofs.Valid.{state-e}
-use Rattle.boundary.specs.Boundary.{tablesWork, tablesCall}
-use Rattle.boundary.proofs.Leaves.{down, opens}
+use Rattle.promises.specs.Boundary.{tablesWork, tablesCall}
+use Rattle.promises.proofs.Leaves.{down, opens}
 use Rattle.gatecalls.proofs.Gates.{tables-given, tables-refused}
 use Rattle.gatecalls.proofs.tables.Statement.{statement}
 use Rattle.gatecalls.proofs.tables.Tie as tie

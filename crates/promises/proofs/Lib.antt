@@ -1,0 +1,10 @@
+pub mod Tested
+pub mod Names
+pub mod Leaves
+pub mod Readers
+pub mod Fills
+pub mod Cases
+pub mod Demand1Calls
+pub mod Demand2Calls
+pub mod Demand3Calls
+pub mod AfterCalls

@@ -1,0 +1,1 @@
+// Other languages: what the calls say and promise, stated in specs/ and proved in proofs/, without code.
