@@ -22,7 +22,7 @@ pub fn write_blif(session: &[u64], text: &mut [u8], out: &mut [u64]) -> u64
         return network::number_of(unfit);
     }
     let s = l.session;
-    let counted = blifwrite::copies_test(s);
+    let counted = blifcopies::copies_test(s);
     let a = boundary::room(counted, out.len(), 1);
     if let Answer::Refused(r) = a {
         return network::number_of(r);

@@ -1,3 +1,2 @@
 pub mod Pieces
-pub mod Growth
 pub mod Shown

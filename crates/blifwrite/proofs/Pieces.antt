@@ -23,7 +23,8 @@ use Rattle.network.specs.State.{arityOf, faninsOf}
 use Rattle.text.specs.Ascii.{ascii}
 use Rattle.text.specs.Numbers.{decimal}
 use Rattle.blif.specs.Write.{marks, mostBlockBytes, mostBlifBytes}
-use Rattle.blifwrite.specs.Pieces.{nameBytes, namesBytes, rowBytes, entryBytes, coverBytes, openingBytes, faninAt, blockBytes, gateBytes, blocksBytes, headBytes, textBytes, mostNameBytes, mostRowBytes, mostHeadBytes, Ready}
+use Rattle.blifcopies.specs.Ready.{faninAt, Ready}
+use Rattle.blifwrite.specs.Pieces.{nameBytes, namesBytes, rowBytes, entryBytes, coverBytes, openingBytes, blockBytes, gateBytes, blocksBytes, headBytes, textBytes, mostNameBytes, mostRowBytes, mostHeadBytes}
 
 -- ## In a loop: f c is what c turns lay, g c what the next one lays
 

@@ -26,7 +26,8 @@ use Rattle.text.specs.Words.{Text}
 use Rattle.blif.specs.Text.{spaced, text}
 use Rattle.blif.proofs.Printed.{text-append}
 use Rattle.blif.specs.Write.{name, marks, rowsIn, blockLines, blocksLines, linesOf, outgoing, blifText, copiesTest, writeBlifOf, mostBlifBytes}
-use Rattle.blifwrite.specs.Pieces.{nameBytes, namesBytes, rowBytes, entryBytes, coverBytes, openingBytes, faninAt, blockBytes, blocksBytes, headBytes, textBytes, Ready}
+use Rattle.blifcopies.specs.Ready.{faninAt, Ready}
+use Rattle.blifwrite.specs.Pieces.{nameBytes, namesBytes, rowBytes, entryBytes, coverBytes, openingBytes, blockBytes, blocksBytes, headBytes, textBytes}
 use Rattle.blifwrite.proofs.Pieces.{length-text}
 
 -- ## Lines

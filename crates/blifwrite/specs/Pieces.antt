@@ -1,16 +1,17 @@
 -- The text of a network in flat arrays, cut into the pieces that the functions lay. Assumes nothing.
 use mathlib.Core.Bool.{cond}
 use mathlib.Core.List.{[], _∷_, _++_}
-use Prim.Native.Nat.{ℕ, zero, suc, _+_, _*_, _^_, _≤_, _<_}
+use Prim.Native.Nat.{ℕ, zero, suc, _+_, _*_, _^_}
 use lib.ListN.{getD}
-use Rattle.bits.specs.Bounds.{mostInputs, gatePlaces}
+use Rattle.bits.specs.Bounds.{mostInputs}
 use Rattle.bits.specs.Bit.{bit}
 use Rattle.network.specs.declared.Session.{Session}
-use Rattle.network.specs.Bounds.{mostGates, mostOutputs, mostFanins, mostSignals, mostEntries}
+use Rattle.network.specs.Bounds.{mostOutputs, mostFanins, mostEntries}
 use Rattle.network.specs.State.{arityOf}
 use Rattle.text.specs.Ascii.{ascii}
 use Rattle.text.specs.Words.{Text}
 use Rattle.blif.specs.Write.{name, marks}
+use Rattle.blifcopies.specs.Ready.{faninAt}
 
 -- a signal's name behind another word
 unfoldable pub nameBytes : ℕ → Text
@@ -37,9 +38,6 @@ coverBytes k table (suc t) = coverBytes k table t ++ entryBytes k table t
 -- the line that opens the block of signal x with the fan-ins f 0, .., f (k - 1)
 unfoldable pub openingBytes : (k : ℕ) (f : ℕ → ℕ) (x : ℕ) → Text
 openingBytes k f x = ascii ".names" ++ namesBytes k f ++ nameBytes x ++ ascii "\n"
-
-abbrev pub faninAt : Session → (g r : ℕ) → ℕ
-faninAt s g r = getD (s .fanins) (gatePlaces * g + r) 0
 
 -- the block of signal x
 unfoldable pub blockBytes : (k : ℕ) (f : ℕ → ℕ) (x table : ℕ) → Text
@@ -79,12 +77,3 @@ mostCoverBytes = mostEntries * mostRowBytes
 
 abbrev pub mostHeadBytes : ℕ
 mostHeadBytes = 9 + (8 + mostNameBytes * mostInputs) + (9 + mostNameBytes * mostOutputs)
-
--- the bounds that keep each piece so short
-pub record Ready (s : Session) : Type 0 where
-  pub inputs : s .n ≤ mostInputs
-  pub gates : s .m ≤ mostGates
-  pub outs : s .p ≤ mostOutputs
-  pub few : (g : ℕ) → g < s .m → arityOf s g ≤ mostFanins
-  pub early : (g r : ℕ) → g < s .m → r < arityOf s g → faninAt s g r < mostSignals
-  pub driven : (i : ℕ) → i < s .p → getD (s .outputs) i 0 < mostSignals

@@ -29,8 +29,8 @@ use Rattle.network.proofs.Exchanges.{net-length}
 use Rattle.network.proofs.Slots.{GateIs, gate-new, gate-kept, sized-gate, sized-output}
 use Rattle.blif.specs.Read.{counted}
 use Rattle.blif.specs.Write.{signalOf, needsCopy, copyOf, copies, outSignal, outgoing, copiesTest}
-use Rattle.blifwrite.specs.Pieces.{faninAt, Ready}
-use Rattle.blifwrite.specs.Copies.{copyDue, freed, withCopy, copied, grown}
+use Rattle.blifcopies.specs.Ready.{faninAt, Ready}
+use Rattle.blifcopies.specs.Copies.{copyDue, freed, withCopy, copied, grown}
 
 -- ## Which outputs get a copy
 

@@ -6,10 +6,10 @@ use lib.ListN.{length}
 use borrow.Author.Needs.{needs}
 use Rattle.bits.specs.Range.{count}
 use Rattle.network.specs.Bounds.{mostOutputs}
-use Rattle.blifwrite.specs.Copies.{copyDue}
-use Rattle.blifwrite.proofs.Growth.{count-next}
-use Rattle.blifwrite.proofs.copies.Statement.{statement}
-use Rattle.blifwrite.proofs.copies.Tie as tie
+use Rattle.blifcopies.specs.Copies.{copyDue}
+use Rattle.blifcopies.proofs.Growth.{count-next}
+use Rattle.blifcopies.proofs.copies.Statement.{statement}
+use Rattle.blifcopies.proofs.copies.Tie as tie
 
 abbrev Inv-loop : tie.InvT-loop
 Inv-loop n outs p c₀ i₀ c i = (i ≤ p) × (c ≤ i) × (c ≡ count i (copyDue n outs))

@@ -5,10 +5,10 @@ use native.Mathlib.Omega.{arith}
 use borrow.Author.Needs.{needs}
 use borrow.Author.Tests.{not-true, not-false}
 use Rattle.bits.specs.Range.{num}
-use Rattle.blifwrite.specs.Copies.{grown}
-use Rattle.blifwrite.proofs.Growth.{copied-due, copied-not, copy-fits, grown-next, grown-out}
-use Rattle.blifwrite.proofs.outgoing.Statement.{statement}
-use Rattle.blifwrite.proofs.outgoing.Tie as tie
+use Rattle.blifcopies.specs.Copies.{grown}
+use Rattle.blifcopies.proofs.Growth.{copied-due, copied-not, copy-fits, grown-next, grown-out}
+use Rattle.blifcopies.proofs.outgoing.Statement.{statement}
+use Rattle.blifcopies.proofs.outgoing.Tie as tie
 
 abbrev Inv-loop : tie.InvT-loop
 Inv-loop p outs t₀ i₀ t i = (i ≤ p) × (t ≡ grown t₀ i)

@@ -1,9 +1,9 @@
 -- `with_copy`: each store in its place. Assumes nothing.
 use mathlib.Core.Path.{refl}
 use borrow.Author.Needs.{needs}
-use Rattle.blifwrite.specs.Copies.{withCopy}
-use Rattle.blifwrite.proofs.with_copy.Statement.{statement}
-use Rattle.blifwrite.proofs.with_copy.Tie as tie
+use Rattle.blifcopies.specs.Copies.{withCopy}
+use Rattle.blifcopies.proofs.with_copy.Statement.{statement}
+use Rattle.blifcopies.proofs.with_copy.Tie as tie
 
 cast-g : tie.Need-cast-g
 cast-g c = search needs
