@@ -1,6 +1,6 @@
 /* The tuned baseline: two words of 64 patterns in a vector, all words of a signal in a row, only gates that a change reaches simulated
    again, rule 6 in whole tables, entries found by splitting words of patterns until all are. Five and six fan-ins are looked up by the
-   functions of the first two. */
+   functions of the first two; with HALVES defined, as up to four, by choosing between halves of the table. */
 #include "baseline.h"
 #include <string.h>
 
@@ -18,6 +18,26 @@ static inline Pair lut2(uint64_t t, Pair a, Pair b) { return mux(b, lut1(t >> 2,
 static inline Pair lut3(uint64_t t, Pair a, Pair b, Pair c) { return mux(c, lut2(t >> 4, a, b), lut2(t, a, b)); }
 static inline Pair lut4(uint64_t t, Pair a, Pair b, Pair c, Pair d) { return mux(d, lut3(t >> 8, a, b, c), lut3(t, a, b, c)); }
 
+static int pair_count(int n) { return n < 7 ? 1 : 1 << (n - 7); }
+
+/* pair w of input i, of the live places, of the excluded set; where there is one word, the second has no live place */
+static Pair input_pair(int i, int w) { return i < 6 ? both(INPUT[i]) : i == 6 ? (Pair){0, ~(uint64_t)0} : fill((unsigned)w, i - 7); }
+static Pair live_pair(int n) { return (Pair){live_places(n), n < 7 ? 0 : live_places(n)}; }
+static Pair excluded_pair(const Network *net, int w) { return (Pair){net->excluded[2 * w], net->excluded[2 * w + 1]}; }
+
+#ifdef HALVES
+/* the table at the rows of five or six fan-ins */
+static inline Pair lut5(uint64_t t, Pair a, Pair b, Pair c, Pair d, Pair e) { return mux(e, lut4(t >> 16, a, b, c, d), lut4(t, a, b, c, d)); }
+static inline Pair lut6(uint64_t t, Pair a, Pair b, Pair c, Pair d, Pair e, Pair f) { return mux(f, lut5(t >> 32, a, b, c, d, e), lut5(t, a, b, c, d, e)); }
+
+static void look_up_wide(int k, uint64_t t, const Pair *const *in, int pairs, Pair *restrict out) {
+    const Pair *a = in[0], *b = in[1], *c = in[2], *d = in[3], *e = in[4], *f = in[5];
+    if (k == 5)
+        for (int w = 0; w < pairs; w++) out[w] = lut5(t, a[w], b[w], c[w], d[w], e[w]);
+    else
+        for (int w = 0; w < pairs; w++) out[w] = lut6(t, a[w], b[w], c[w], d[w], e[w], f[w]);
+}
+#else
 /* the sixteen functions of a and b, by their tables */
 static inline void functions(Pair a, Pair b, Pair *ab) {
     Pair minterms[4] = {~(a | b), a & ~b, b & ~a, a & b};
@@ -37,13 +57,6 @@ static inline Pair join4(const Pair *ab, uint64_t t, Pair c, Pair d) { return jo
 static inline Pair join5(const Pair *ab, uint64_t t, Pair c, Pair d, Pair e) { return join4(ab, t, c, d) ^ (e & join4(ab, t >> 16, c, d)); }
 static inline Pair join6(const Pair *ab, uint64_t t, Pair c, Pair d, Pair e, Pair f) { return join5(ab, t, c, d, e) ^ (f & join5(ab, t >> 32, c, d, e)); }
 
-static int pair_count(int n) { return n < 7 ? 1 : 1 << (n - 7); }
-
-/* pair w of input i, of the live places, of the excluded set; where there is one word, the second has no live place */
-static Pair input_pair(int i, int w) { return i < 6 ? both(INPUT[i]) : i == 6 ? (Pair){0, ~(uint64_t)0} : fill((unsigned)w, i - 7); }
-static Pair live_pair(int n) { return (Pair){live_places(n), n < 7 ? 0 : live_places(n)}; }
-static Pair excluded_pair(const Network *net, int w) { return (Pair){net->excluded[2 * w], net->excluded[2 * w + 1]}; }
-
 /* the table at the rows of five or six fan-ins */
 static void look_up_wide(int k, uint64_t t, const Pair *const *in, int pairs, Pair *restrict out) {
     const Pair *a = in[0], *b = in[1], *c = in[2], *d = in[3], *e = in[4], *f = in[5];
@@ -54,6 +67,7 @@ static void look_up_wide(int k, uint64_t t, const Pair *const *in, int pairs, Pa
     else
         for (int w = 0; w < pairs; w++) functions(a[w], b[w], ab), out[w] = join6(ab, t, c[w], d[w], e[w], f[w]);
 }
+#endif
 
 /* the table at the rows of a gate's fan-ins */
 static void look_up(int k, uint64_t t, const Pair *const *in, int pairs, Pair *restrict out) {
@@ -138,11 +152,12 @@ static inline void split(const Pair *const *in, const Pair *const *free, int w, 
     }
 }
 
-/* the entries that the places of keep deliver to up to four fan-ins */
+/* the entries that the places of keep deliver */
 static inline uint64_t delivered_by(int k, const Pair *const *in, const Pair *const *free, const Pair *keep, int pairs) {
     uint64_t entries = 0;
     for (int w = 0; w < pairs && entries != all_entries(k); w++) {
-        Pair cubes[16] = {keep[w]};
+        Pair cubes[1 << FANINS];
+        cubes[0] = keep[w];
         split(in, free, w, 0, k, cubes);
         for (int t = 0; t < 1 << k; t++) entries |= (uint64_t)some(cubes[t]) << t;
     }
@@ -178,8 +193,13 @@ static inline uint64_t delivered(int k, const Pair *const *in, const Pair *const
            : k == 2 ? delivered_by(2, in, free, keep, pairs)
            : k == 3 ? delivered_by(3, in, free, keep, pairs)
            : k == 4 ? delivered_by(4, in, free, keep, pairs)
+#ifdef HALVES
+           : k == 5 ? delivered_by(5, in, free, keep, pairs)
+                    : delivered_by(6, in, free, keep, pairs);
+#else
            : k == 5 ? delivered_wide(5, in, free, keep, pairs)
                     : delivered_wide(6, in, free, keep, pairs);
+#endif
 }
 
 static void dont_cares(const Network *net, Sets *sets) {
