@@ -56,10 +56,6 @@ pub alone : (a : Answer) → a ≡ first (a ∷ [])
 alone Done = refl
 alone (Refused r) = refl
 
-pub or_else-assoc : (a b c : Answer) → or_else (or_else a b) c ≡ or_else a (or_else b c)
-or_else-assoc Done b c = refl
-or_else-assoc (Refused r) b c = refl
-
 first-append : (xs ys : List Answer) → first (xs ++ ys) ≡ or_else (first xs) (first ys)
 first-append [] ys = refl
 first-append (Done ∷ xs) ys = first-append xs ys

@@ -16,4 +16,3 @@ pub mod Examples
 pub mod Cases
 pub mod ListCases
 pub mod RecordCases
-pub mod WeightCases

@@ -1,21 +1,21 @@
-// The calls: the search for harm. What other tables do: of the patterns that are not excluded and change a loaded output the one with the
-// fewest bits set, the smaller number among equals, and there the lowest output.
-ghost use Rattle.std.specs.Prelude.{◌≡◌, ℕ, suc, ◌+◌, ◌*◌, ◌<◌, ◌≤◌, get_or};
-ghost use Rattle.bits.specs.Bounds.{most_inputs, row_words};
+// The calls: the search for harm. What other tables do: the first pattern, and there the lowest output, at which the loaded outputs change.
+ghost use Rattle.std.specs.Prelude.{◌≡◌, ℕ, ◌+◌, ◌*◌, ◌<◌, ◌≤◌, get_or};
+ghost use Rattle.bits.specs.Bounds.{row_words};
 ghost use Rattle.bits.specs.Range.{any};
 ghost use Rattle.bits.specs.Bit.{bit};
-ghost use Rattle.bits.specs.Cut.{Framed};
 ghost use Rattle.network.specs.declared.Answer.TheVariants.{Done};
 ghost use Rattle.network.specs.Bounds.{most_outputs, most_signals};
-ghost use Rattle.network.specs.Flat.{net_with, loaded_net};
-ghost use Rattle.network.specs.Valid.{OutputsOk};
+ghost use Rattle.network.specs.Flat.{net_of, net_with, loaded_net};
+ghost use Rattle.network.specs.Valid.{NetOk, OutputsOk};
 ghost use Rattle.network.specs.State.{state_fault};
 ghost use Rattle.network.specs.Calls.{harm_test};
 ghost use Rattle.simulate.specs.Simulated.{words_at};
-ghost use Rattle.verdict.specs.Changed.{changed_word, changed_at, word_harm, weighted_at, Harmed, harmed_at, any_bit, weight_harm, lightest_harm, rows_harm};
+ghost use Rattle.verdict.specs.Changed.{changed_word, changed_at, word_harm};
 
-use bits::{Frame, ROW_WORDS};
-use network::{Answer, EXCLUDED_WORDS, MOST_GATES, MOST_OUTPUTS, Refusal, SIGNAL_WORDS, Session};
+use bits::ROW_WORDS;
+use network::{
+    Answer, EXCLUDED_WORDS, FANIN_PLACES, MOST_GATES, MOST_OUTPUTS, Refusal, SIGNAL_WORDS, Session,
+};
 
 // Where output i has another value in word w of the rows xs than in ys.
 fn changed(
@@ -107,87 +107,56 @@ fn search(
     }
 }
 
-// The first harm in word w at the patterns of weight c, of which `held` has those to look at. A word without one is not searched.
-fn word_harm(
+// The first harm in word w, where the whole word is asked first whether an output changes. A word without a pattern to judge is skipped.
+fn compare(
     p: usize,
     outs: &[u8; MOST_OUTPUTS],
     xs: &[u64; SIGNAL_WORDS],
     ys: &[u64; SIGNAL_WORDS],
-    held: u64,
-    c: usize,
+    keep: u64,
     w: usize,
 ) -> Answer
     requires outputs_ok { OutputsOk outs.now p most_signals }
     requires w_lt_row_words { w < row_words }
-    ensures { result ≡ word_harm (weighted_at outs.now (words_at xs.now w) (words_at ys.now w) held c w) p w }
+    ensures { result ≡ word_harm (changed_at outs.now (words_at xs.now w) (words_at ys.now w) keep w) p w }
 {
-    if held == 0 {
+    if keep == 0 {
         return Answer::Done;
     }
-    let keep = held & bits::weight_word(c, w as u64);
-    if keep == 0 {
+    let d = changes(p, outs, xs, ys, w);
+    if keep & d == 0 {
         return Answer::Done;
     }
     search(p, outs, xs, ys, keep, w)
 }
 
-// Of each word the harmed patterns: those at which some output changes. Places past the last pattern and excluded patterns are not judged.
-fn harm_words(
+// The first harm over all words. The second network is simulated only where it differs from the first. Places past the last pattern and excluded patterns are not judged.
+fn network_harm(
+    n: usize,
+    m: usize,
     p: usize,
     excluded: &[u64; EXCLUDED_WORDS],
+    arity: &[u8; MOST_GATES],
+    fanins: &[u8; FANIN_PLACES],
+    loaded: &[u64; MOST_GATES],
+    tables: &[u64; MOST_GATES],
     outs: &[u8; MOST_OUTPUTS],
-    xs: &[u64; SIGNAL_WORDS],
-    ys: &[u64; SIGNAL_WORDS],
-    f: Frame,
-) -> [u64; ROW_WORDS]
-    requires outputs_ok { OutputsOk outs.now p most_signals }
-    requires count_le_row_words { f.count ≤ row_words }
-    ensures { Harmed p excluded.now outs.now xs.now ys.now f.live f.count result }
+) -> Answer
+    requires net_ok { NetOk arity.now fanins.now n m }
+    requires outputs_ok { OutputsOk outs.now p (n + m) }
+    ensures { result ≡ harm_test (net_of arity.now fanins.now loaded.now n m excluded.now outs.now p) (net_of arity.now fanins.now tables.now n m excluded.now outs.now p) }
 {
-    let count = f.count;
+    let f = bits::frame_of(n);
+    let words = f.count;
     let live = f.live;
-    let mut harmed = [0u64; ROW_WORDS];
+    let mut xs = [0u64; SIGNAL_WORDS];
+    simulate::rows(n, m, arity, fanins, loaded, words, &mut xs);
+    let mut ys = xs;
+    incremental::update(n, m, arity, fanins, loaded, tables, words, &mut ys);
     let mut w = 0;
-    while w < count {
+    while w < words {
         let keep = live & bits::complement(excluded[w]);
-        harmed[w] = keep & changes(p, outs, xs, ys, w);
-        w += 1;
-    }
-    harmed
-}
-
-// Whether one of the first `count` words has a bit set.
-fn any_word(words: &[u64; ROW_WORDS], count: usize) -> bool
-    requires { count ≤ row_words }
-    ensures { result ≡ any_bit words.now count }
-{
-    let mut w = 0;
-    while w < count {
-        if bits::any_bit(words[w]) {
-            return true;
-        }
-        w += 1;
-    }
-    false
-}
-
-// The first harm at the harmed patterns of weight c, word after word.
-fn weight_harm(
-    p: usize,
-    outs: &[u8; MOST_OUTPUTS],
-    xs: &[u64; SIGNAL_WORDS],
-    ys: &[u64; SIGNAL_WORDS],
-    harmed: &[u64; ROW_WORDS],
-    count: usize,
-    c: usize,
-) -> Answer
-    requires outputs_ok { OutputsOk outs.now p most_signals }
-    requires count_le_row_words { count ≤ row_words }
-    ensures { result ≡ weight_harm (harmed_at harmed.now outs.now xs.now ys.now) p count c }
-{
-    let mut w = 0;
-    while w < count {
-        let a = word_harm(p, outs, xs, ys, harmed[w], c, w);
+        let a = compare(p, outs, &xs, &ys, keep, w);
         if let Answer::Refused(_) = a {
             return a;
         }
@@ -196,54 +165,7 @@ fn weight_harm(
     Answer::Done
 }
 
-// The first harm by weight, from no bit set up to all n.
-fn lightest_harm(
-    n: usize,
-    p: usize,
-    outs: &[u8; MOST_OUTPUTS],
-    xs: &[u64; SIGNAL_WORDS],
-    ys: &[u64; SIGNAL_WORDS],
-    harmed: &[u64; ROW_WORDS],
-    count: usize,
-) -> Answer
-    requires outputs_ok { OutputsOk outs.now p most_signals }
-    requires n_le_most_inputs { (n ≤ most_inputs) × (count ≤ row_words) }
-    ensures { result ≡ lightest_harm (harmed_at harmed.now outs.now xs.now ys.now) p count (suc n) }
-{
-    let mut c = 0;
-    while c <= n {
-        let a = weight_harm(p, outs, xs, ys, harmed, count, c);
-        if let Answer::Refused(_) = a {
-            return a;
-        }
-        c += 1;
-    }
-    Answer::Done
-}
-
-// The first harm that the rows tell. Where no pattern is harmed, no weight is tried.
-fn rows_harm(
-    n: usize,
-    p: usize,
-    excluded: &[u64; EXCLUDED_WORDS],
-    outs: &[u8; MOST_OUTPUTS],
-    xs: &[u64; SIGNAL_WORDS],
-    ys: &[u64; SIGNAL_WORDS],
-    f: Frame,
-) -> Answer
-    requires outputs_ok { OutputsOk outs.now p most_signals }
-    requires n_le_most_inputs { (n ≤ most_inputs) × Framed n f.count f.live }
-    ensures { result ≡ rows_harm n p excluded.now outs.now xs.now ys.now }
-{
-    let count = f.count;
-    let harmed = harm_words(p, excluded, outs, xs, ys, f);
-    if !any_word(&harmed, count) {
-        return Answer::Done;
-    }
-    lightest_harm(n, p, outs, xs, ys, &harmed, count)
-}
-
-// The harm that the session's network does with these tables. It is simulated only where it differs from the loaded one.
+// The harm that the session's network does with these tables.
 pub fn harm(s: Session, tables: [u64; MOST_GATES]) -> Answer
     requires { state_fault s ≡ Done }
     ensures { result ≡ harm_test (loaded_net s) (net_with s tables) }
@@ -256,11 +178,5 @@ pub fn harm(s: Session, tables: [u64; MOST_GATES]) -> Answer
     let fanins = s.fanins;
     let loaded = s.loaded;
     let outs = s.outputs;
-    let f = bits::frame_of(n);
-    let count = f.count;
-    let mut xs = [0u64; SIGNAL_WORDS];
-    simulate::rows(n, m, &arity, &fanins, &loaded, count, &mut xs);
-    let mut ys = xs;
-    incremental::update(n, m, &arity, &fanins, &loaded, &tables, count, &mut ys);
-    rows_harm(n, p, &excluded, &outs, &xs, &ys, f)
+    network_harm(n, m, p, &excluded, &arity, &fanins, &loaded, &tables, &outs)
 }

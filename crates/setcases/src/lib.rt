@@ -1,2 +1,0 @@
-// Cases of the sets, document 004's examples among them, which take longer to compute than 01's own: over the definitions of `network`,
-// without code.
