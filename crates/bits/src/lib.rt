@@ -1,4 +1,6 @@
 // Words: one machine word. Bits, tables as numbers, lookup by arity, minterm words, the six fixed input words, the seven fixed words of weights.
+#![tactic(auto)]
+
 ghost use Rattle.std.specs.Prelude.{◌≡◌, [], ◌∷◌, ℕ, ◌+◌, ◌-◌, ◌*◌, ◌/◌, ◌^◌, ◌<◌, ◌≤◌, eqb, ltb, get_or, true, false, not, ◌&&◌};
 ghost use Rattle.bits.specs.Bounds.{most_inputs, row_words, small_fanins, small_words};
 ghost use Rattle.bits.specs.Cut.{Cut, Framed};

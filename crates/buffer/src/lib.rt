@@ -1,4 +1,6 @@
 // Words: bytes and words put into lent buffers, from a place on; all else in the buffer stays.
+#![tactic(auto)]
+
 ghost use Rattle.std.specs.Prelude.{◌≡◌, ◌+◌, ◌%◌, ◌≤◌, length};
 ghost use Rattle.std.proofs.lemmas.List.Edits.{sets};
 ghost use Rattle.bits.specs.Lists.{bytes_in};

@@ -1,4 +1,6 @@
 // The specification: the session type, and in specs/ the definitions of 01: values, rules 1 to 7, file, calls, lists of exchanges.
+#![tactic(auto)]
+
 ghost use Rattle.std.specs.Prelude.{◌≡◌, ◌≤◌};
 ghost use Rattle.bits.specs.Bounds.{most_inputs};
 ghost use Rattle.network.specs.Bounds.{most_set_bytes};

@@ -6,15 +6,11 @@ use borrow.Author.Tests.{ne_eqb}
 use Rattle.bits.specs.Range.{any}
 use Rattle.bits.specs.Bit.{bit}
 use Rattle.bits.proofs.Ranges.{any-zero, any_some}
-use Rattle.bits.proofs.any_bit.Statement.{statement}
-use Rattle.bits.proofs.any_bit.Tie as tie
+use Rattle.bits.proofs.any_bit.Goals as goal
 
-returns : tie.Need-returns
+pub returns : goal.returns
 returns c = go (ℕ_discrete c.args.x 0)
   where
     go : Dec (c.args.x ≡ 0) → not (eqb c.args.x 0) ≡ any 64 (bit c.args.x)
     go (yes e) = rw e (sym (any-zero 64))
     go (no n) = rw (ne_eqb c.args.x 0 n) (sym (any_some 64 c.args.x c.ranges.x.fits n))
-
-pub any-bit-spec : {M : Type 1} → statement M
-any-bit-spec = tie.close (tie.spec returns)
