@@ -1,5 +1,7 @@
 // Of the loaded network: edge tables, rule 6. Entry t of the edge table of fan-in r is set where the gate frees fan-in r at entry t.
 // All entries of a gate at once: a word has a bit for each, and word f is of the set f of fan-ins.
+#![tactic(auto)]
+
 ghost use Rattle.std.specs.Prelude.{◌≡◌, ℕ, ◌+◌, ◌/◌, ◌^◌, ◌<◌, ◌≤◌, length, get_or};
 ghost use Rattle.std.specs.Int.Bits.{bit_xor};
 ghost use Rattle.bits.specs.Bounds.{gate_places, small_fanins};

@@ -1,4 +1,6 @@
 // Simulation: the entries of a gate that the patterns of a word give or deliver.
+#![tactic(auto)]
+
 ghost use Rattle.std.specs.Prelude.{◌≡◌, ◌&&◌, ℕ, ◌^◌, ◌<◌, ◌≤◌, eqb, get_or};
 ghost use Rattle.std.specs.Int.Bits.{bit_or};
 ghost use Rattle.bits.specs.Bounds.{small_fanins};

@@ -57,7 +57,7 @@ pub const DECIDING_BYTES: usize = MOST_FILE_BYTES + 1;
 // A session: the loaded and the current network in flat arrays, and the open tables that the load gave.
 // Gate g has its fan-ins at places GATE_PLACES * g and on; a table has entry t at bit t.
 // A one in the excluded set means that the pattern never comes.
-#[derive(Drop)]
+#[derive(Clone, Copy)]
 pub struct Session {
     pub n: u8,
     pub m: u8,
@@ -72,7 +72,7 @@ pub struct Session {
 }
 
 // Why a call is refused, in the order of the numbers 1 to 18.
-#[derive(Drop)]
+#[derive(Clone, Copy)]
 pub enum Refusal {
     Truncated,
     UnexpectedMark,
@@ -95,38 +95,38 @@ pub enum Refusal {
 }
 
 // A refusal in numbers: its number, how many values it names, and these from the start.
-#[derive(Drop)]
+#[derive(Clone, Copy)]
 pub struct Named(pub u64, pub usize, pub [u64; 2]);
 
-#[derive(Drop)]
+#[derive(Clone, Copy)]
 pub enum Answer {
     Done,
     Refused(Refusal),
 }
 
 // A load: where it is refused, the session is all zeros.
-#[derive(Drop)]
+#[derive(Clone, Copy)]
 pub struct Loaded {
     pub answer: Answer,
     pub session: Session,
 }
 
 // An exchange: where it is refused, the session is the one that was given.
-#[derive(Drop)]
+#[derive(Clone, Copy)]
 pub struct Exchanged {
     pub answer: Answer,
     pub session: Session,
 }
 
 // The SDC of one gate: its first 64 entries, and the others.
-#[derive(Drop)]
+#[derive(Clone, Copy)]
 pub struct Sdc {
     pub low: u64,
     pub high: u64,
 }
 
 // The tables of one gate.
-#[derive(Drop)]
+#[derive(Clone, Copy)]
 pub struct Tables {
     pub sdc: Sdc,
     pub cdc: u64,
@@ -134,20 +134,20 @@ pub struct Tables {
     pub open_table: u64,
 }
 
-#[derive(Drop)]
+#[derive(Clone, Copy)]
 pub enum TablesAnswer {
     Given(Tables),
     Refused(Refusal),
 }
 
-#[derive(Drop)]
+#[derive(Clone, Copy)]
 pub enum WriteAnswer {
     Written(usize),
     Refused(Refusal),
 }
 
 // The number of patterns in the compatible set of each gate, 0 past the last gate and in a refusal.
-#[derive(Drop)]
+#[derive(Clone, Copy)]
 pub struct Counts {
     pub answer: Answer,
     pub counts: [u16; MOST_GATES],

@@ -1,4 +1,6 @@
 // The file: the tests of counts, fan-ins, tables and outputs, refusals 3 to 7, and of a session made by hand, refusal 10.
+#![tactic(auto)]
+
 ghost use Rattle.std.specs.Prelude.{◌≡◌, [], ◌∷◌, map, ◌-◌, ◌*◌, ◌^◌, ◌<◌, ◌≤◌, length, get_or};
 ghost use Rattle.bits.specs.Bounds.{most_inputs};
 ghost use Rattle.bits.specs.Range.{places, up_from};

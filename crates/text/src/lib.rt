@@ -1,4 +1,6 @@
 // Words: numbers in decimal and hexadecimal, put into a lent buffer; a text parted into words, as definitions. Quoted text needs no function of its own: `buffer::copy` of `b".."` meets `ascii` of the same words.
+#![tactic(auto)]
+
 ghost use Rattle.std.specs.Prelude.{◌≡◌, ◌+◌, ◌<◌, ◌≤◌, length};
 ghost use Rattle.buffer.specs.Laid.{Room, Laid};
 ghost use Rattle.text.specs.Numbers.{digit, word_digits, hex, decimal};

@@ -1,5 +1,7 @@
 // Simulation: lookup in tables of five and six inputs, by the words of all sixteen functions of the first two inputs, which stand in rows.
 // Row t is the function whose table is t; its word w stands at place ROW_WORDS * t + w.
+#![tactic(auto)]
+
 ghost use Rattle.std.specs.Prelude.{◌≡◌, [], ◌∷◌, ℕ, ◌+◌, ◌*◌, ◌<◌, length, get_or};
 ghost use Rattle.bits.specs.Bounds.{row_words};
 ghost use Rattle.bits.specs.Bit.{bit, number};
