@@ -1,6 +1,5 @@
 -- `edges::halve` meets its contract. Assumes nothing.
 use mathlib.Core.Path.{refl}
-use Prim.Native.Nat.{◌-◌}
 use native.Mathlib.Omega.{arith}
 use lib.ListN.{length-set}
 use Rattle.edges.proofs.EdgeWords.{halved-step}

@@ -1,6 +1,5 @@
 -- `edges::small_edges` meets its contract. Assumes nothing.
 use mathlib.Core.Path.{refl}
-use Prim.Native.Nat.{◌-◌}
 use native.Mathlib.Omega.{arith}
 use Rattle.edges.proofs.EdgeWords.{small-next}
 use Rattle.edges.proofs.small_edges.Goals as goal

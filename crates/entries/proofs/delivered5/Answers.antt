@@ -10,7 +10,7 @@ joined c =
     halves a.ins a.frees a.keep 4 c.complement.result c.delivered-low.result c.delivered-high.result (omega arith) c.complement.ensures c.delivered-low.ensures c.delivered-high.ensures
 
 pub overflow_add-result : goal.overflow_add-result
-overflow_add-result c = omega (arith, (joined (goal.at.overflow_add-result c).After-delivered-high).ranges)
+overflow_add-result c = omega (arith, (joined (goal.at.overflow_add-result c).After-delivered-high).fits)
 
 pub returns : goal.returns
 returns c = (joined (goal.at.returns c).After-delivered-high).whole

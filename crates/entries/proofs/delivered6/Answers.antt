@@ -10,7 +10,7 @@ joined c =
     halves a.ins a.frees a.keep 5 c.complement.result c.delivered5-low.result c.delivered5-high.result (omega arith) c.complement.ensures c.delivered5-low.ensures c.delivered5-high.ensures
 
 pub overflow_add-result : goal.overflow_add-result
-overflow_add-result c = omega (arith, (joined (goal.at.overflow_add-result c).After-delivered5-high).ranges)
+overflow_add-result c = omega (arith, (joined (goal.at.overflow_add-result c).After-delivered5-high).fits)
 
 pub returns : goal.returns
 returns c = (joined (goal.at.returns c).After-delivered5-high).whole

@@ -22,24 +22,24 @@ whole : (s : Start) (r : ℕ) → r ≡ bit_or s.args.found (delivered_by s.args
 whole s r given = given ∙ more s s.args.k _ refl refl
 
 pub returns-then-k-eq1 : goal.returns-then-k-eq1
-returns-then-k-eq1 c = more c.before 1 _ (omega arith) c.delivered.ensures
+returns-then-k-eq1 c = more (goal.at.returns-then-k-eq1 c).Start 1 _ (omega arith) c.delivered.ensures
 
 pub returns-then-k-eq2 : goal.returns-then-k-eq2
-returns-then-k-eq2 c = more c.before 2 _ (omega arith) c.delivered-then-k-eq2.ensures
+returns-then-k-eq2 c = more (goal.at.returns-then-k-eq2 c).Start 2 _ (omega arith) c.delivered-then-k-eq2.ensures
 
 pub returns-then-k-eq3 : goal.returns-then-k-eq3
-returns-then-k-eq3 c = more c.before 3 _ (omega arith) c.delivered-then-k-eq3.ensures
+returns-then-k-eq3 c = more (goal.at.returns-then-k-eq3 c).Start 3 _ (omega arith) c.delivered-then-k-eq3.ensures
 
 pub returns-then-k-eq4 : goal.returns-then-k-eq4
-returns-then-k-eq4 c = more c.before 4 _ (omega arith) c.delivered-then-k-eq4.ensures
+returns-then-k-eq4 c = more (goal.at.returns-then-k-eq4 c).Start 4 _ (omega arith) c.delivered-then-k-eq4.ensures
 
 pub returns-then-found-ne0 : goal.returns-then-found-ne0
-returns-then-found-ne0 c = whole c.before c.missing.result c.missing.ensures
+returns-then-found-ne0 c = whole (goal.at.returns-then-found-ne0 c).Start c.missing.result c.missing.ensures
 
 pub returns-then-k-eq5 : goal.returns-then-k-eq5
 returns-then-k-eq5 c =
-    none_found c.args.found c.delivered5.result (reached c) (omega arith) (more c 5 c.delivered5.result (omega arith) c.delivered5.ensures)
+    none_found c.args.found c.delivered5.result (reached (goal.at.returns-then-k-eq5 c).Start) (omega arith) (more (goal.at.returns-then-k-eq5 c).Start 5 c.delivered5.result (omega arith) c.delivered5.ensures)
 
 pub returns : goal.returns
 returns c =
-    none_found c.args.found c.delivered6.result (reached c) (omega arith) (more c 6 c.delivered6.result (omega arith) c.delivered6.ensures)
+    none_found c.args.found c.delivered6.result (reached (goal.at.returns c).Start) (omega arith) (more (goal.at.returns c).Start 6 c.delivered6.result (omega arith) c.delivered6.ensures)

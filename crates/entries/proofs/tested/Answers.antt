@@ -1,6 +1,5 @@
 -- `entries::tested` meets its contract. Assumes nothing.
 use mathlib.Core.Path.{ap, ◌∙◌}
-use mathlib.Core.Logic.{⊎_elim}
 use mathlib.Core.Bool.{Bool, true, false, ◌&&◌, ◌||◌}
 use Prim.Native.Nat.{ℕ, ◌-◌}
 use native.Mathlib.Omega.{arith}
@@ -10,6 +9,7 @@ use Rattle.bits.proofs.BitLaws.{bit-zero}
 use Rattle.entries.specs.By.{shares}
 use Rattle.entries.proofs.Parts.{shares-by, none_left, turn, with-own, without}
 use Rattle.entries.proofs.tested.Goals as goal
+use Rattle.entries.proofs.tested.Goals.{then-any_bit, else-any_bit}
 
 pub loop-left-init : goal.loop-left-init
 loop-left-init c t =
@@ -30,10 +30,10 @@ loop-left-preserved c =
     let high = a.high.now in
     let test : ℕ → Bool = shares low high in
     turn c.loop-left.left t c.lowest_bit-t.ensures.1 c.lowest_bit-t.ensures.2 test found c.if-any_bit.found (λ i. bit a.given i && test i)
-    (⊎_elim
-    (λ w i. ap (λ (x : ℕ). bit x i) w.2 ∙ with-own found t test w.1.result w.1.ensures (shares-by low high t c.any_bit.result true c.any_bit.ensures w.0.taken) i)
-    (λ w i. ap (λ (x : ℕ). bit x i) w.1 ∙ without found t test (shares-by low high t c.any_bit.result false c.any_bit.ensures w.0.left) i)
-    c.if-any_bit.branch)
+    (elim c.if-any_bit.branch [
+      | then-any_bit w ↦ λ i. ap (λ (x : ℕ). bit x i) w.found-is ∙ with-own found t test w.power-found.result w.power-found.ensures (shares-by low high t c.any_bit.result true c.any_bit.ensures w.if-any_bit.true) i
+      | else-any_bit w ↦ λ i. ap (λ (x : ℕ). bit x i) w.found-is ∙ without found t test (shares-by low high t c.any_bit.result false c.any_bit.ensures w.if-any_bit.false) i
+    ])
     c.loop-left.invariant
 
 pub returns : goal.returns

@@ -1,6 +1,6 @@
 use mathlib.Core.Path.{◌≡◌}
 use mathlib.Core.Bool.{◌&&◌, ◌||◌}
-use Prim.Native.Nat.{ℕ, ◌-◌}
+use Prim.Native.Nat.{ℕ}
 use Rattle.bits.specs.Bit.{bit}
 use Rattle.entries.specs.By.{shares}
 use Rattle.entries.proofs.tested.Given as goal

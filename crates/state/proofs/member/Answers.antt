@@ -1,5 +1,4 @@
 use mathlib.Core.Path.{refl, ◌∙◌}
-use Prim.Native.Nat.{◌-◌}
 use native.Mathlib.Omega.{arith}
 use Rattle.state.proofs.TestSteps.{member-found, member-next, member-done}
 use Rattle.state.proofs.member.Goals as goal

@@ -1,4 +1,4 @@
-use Prim.Native.Nat.{◌-◌, ◌≤◌}
+use Prim.Native.Nat.{◌≤◌}
 use Rattle.buffer.proofs.Laying.{Pending}
 use Rattle.text.specs.Numbers.{word_digits, hex}
 use Rattle.text.proofs.put_hex.Given as goal
