@@ -1,4 +1,6 @@
 // Programs: the text of an order, parsed: GATE=TABLE words into signals, tables and the places of the gates' names.
+#![tactic(auto)]
+
 ghost use Rattle.std.specs.Prelude.{◌≡◌, true, ◌+◌, ◌^◌, ◌≤◌, ◌<◌, length, drop};
 ghost use Rattle.text.specs.Words.{between, is_printing, before, all};
 ghost use Rattle.ordertext.specs.Order.{most_order_bytes, is_gap, gap_is, digit_of, digits, is_numeral, numeral, name_length, is_pair, signal_named};

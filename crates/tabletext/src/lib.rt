@@ -1,4 +1,6 @@
 // Programs: the digits of the tables that a listing or an answer shows.
+#![tactic(auto)]
+
 ghost use Rattle.std.specs.Prelude.{◌≡◌, ◌≤◌};
 ghost use Rattle.network.specs.Bounds.{most_gates};
 ghost use Rattle.network.specs.Flat.{loaded_net};
