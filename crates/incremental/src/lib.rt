@@ -1,4 +1,6 @@
 // Simulation: the words of all signals under other tables, from words that are there. Rows as in `simulate`.
+#![tactic(auto)]
+
 ghost use Rattle.std.specs.Prelude.{◌≡◌, true, not, ℕ, ◌+◌, ◌*◌, ◌<◌, ◌≤◌, length, get_or, take};
 ghost use Rattle.bits.specs.Bounds.{most_inputs, row_words, gate_places};
 ghost use Rattle.bits.specs.Range.{places};

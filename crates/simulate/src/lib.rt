@@ -1,4 +1,6 @@
 // Simulation: the words of all signals, 64 patterns at a time. Row s holds the words of signal s: word w stands at place ROW_WORDS * s + w.
+#![tactic(auto)]
+
 ghost use Rattle.std.specs.Prelude.{◌≡◌, List, [], ◌∷◌, ℕ, ◌+◌, ◌*◌, ◌<◌, ◌≤◌, length, get_or, set};
 ghost use Rattle.bits.specs.Bounds.{most_inputs, row_words, gate_places};
 ghost use Rattle.bits.specs.Bit.{bit, column};
