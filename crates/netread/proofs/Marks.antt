@@ -1,18 +1,16 @@
 -- A mark is the one that is due exactly where it opens the kind of record that is due. The laws go over the list of marks. Assumes nothing.
-use mathlib.Core.Path.{◌≡◌, refl, sym, ap, ◌∙◌, subst}
+use mathlib.Core.Path.{◌≡◌, refl, sym, ap, ◌∙◌}
 use mathlib.Core.Bool.{Bool, true, false, not, cond, ◌&&◌}
-use mathlib.Core.List.{List, [], ◌∷◌, map}
-use Prim.Native.Nat.{ℕ, suc, ◌≤◌, ◌<◌}
+use mathlib.Core.List.{List, [], ◌∷◌}
+use Prim.Native.Nat.{ℕ, ◌≤◌, ◌<◌}
 use native.Mathlib.Omega.{arith}
 use native.Mathlib.Decide.{dec_lt}
-use lib.Dec.{T, leb, ltb, eqb}
+use lib.Dec.{leb, ltb, eqb}
 use lib.ListN.{length}
 use borrow.Author.Tests.{lt-ltb, le-ltb, le-leb, lt-leb, eq-eqb, ne_eqb, eqb-true, ltb-true}
 use denote.Enum.Declared.{tag_of}
-use types.Run.{OneOf, miss}
-use mir.Val.{has_key}
-use Rattle.bits.specs.Range.{up_from}
-use Rattle.bits.proofs.Ranges.{and_l, and_r, by_cases, every-e}
+use Rattle.bits.proofs.Ranges.{and_l, and_r, by_cases}
+use Rattle.network.specs.declared.Refusal.{Refusal}
 use Rattle.network.specs.declared.Refusal.TheVariants.{Truncated, UnexpectedMark}
 use Rattle.network.specs.declared.Answer.TheVariants as answer
 use Rattle.network.specs.Tests.{refuse_if, mark, mark_test}
@@ -31,25 +29,13 @@ tag k = tag_of the_type k
 abbrev pub Record : Kind → Type 0
 Record k = tag k < tag (Refused Truncated)
 
-pub unexpected : (k : Kind) → (tag k ≡ tag (Refused Truncated) → ⊥) → UnexpectedMark ≡ not_due k
+pub unexpected : (k : Kind) → ((r : Refusal) → k ≡ Refused r → ⊥) → UnexpectedMark ≡ not_due k
 unexpected Header h = refl
 unexpected Excluded h = refl
 unexpected Gate h = refl
 unexpected WideGate h = refl
 unexpected Output h = refl
-unexpected (Refused r) h = let z : ⊥ = h refl in absurd z
-
--- the tags ts without those of the kinds ks
-abbrev without : List Kind → List ℕ → List ℕ
-without ks [] = []
-without ks (t ∷ ts) = cond (has_key (map tag ks) t) (without ks ts) (t ∷ without ks ts)
-
--- the tags of all other kinds, by which control comes to the last arm of a match
-abbrev pub others : List Kind → List ℕ
-others ks = without ks (up_from 0 (suc (tag (Refused Truncated))))
-
-pub apart : (ks : List Kind) (x d : ℕ) → T (not (has_key (others ks) d)) → OneOf (others ks) x → x ≡ d → ⊥
-apart ks x d t h e = miss (others ks) d t (subst (OneOf (others ks)) e h)
+unexpected (Refused r) h = absurd (h r refl)
 
 -- ## The list of marks
 
@@ -76,9 +62,14 @@ fitting m h =
     (ltb-true (tag m.1) (tag (Refused Truncated)) (and_l r e h), eqb-true (mark_of m.1) m.0 (and_r r e h))
 
 -- each kind of record has a mark, which opens it
-own : (d : Kind) → Record d → tag (kind_of (mark_of d)) ≡ tag d
+own : (d : Kind) → Record d → kind_of (mark_of d) ≡ d
 unfolding kind_of
-own d h = eqb-true _ _ (every-e (tag (Refused Truncated)) (λ t. eqb (tag (kind_of (mark_in marks t))) t) refl (tag d) h)
+own Header h = refl
+own Excluded h = refl
+own Gate h = refl
+own WideGate h = refl
+own Output h = refl
+own (Refused r) h = let z : ⊥ = omega arith in absurd z
 
 module _ (x : ℕ) where
   marked : (ms : List (ℕ × Kind)) → all_fit ms ≡ true → Record (kind_in ms x) → x ≡ mark_of (kind_in ms x)
@@ -96,7 +87,7 @@ module _ (x : ℕ) where
   refuse [] s = refl
   refuse (m ∷ ms) s =
       let l = (fitting m (and_l (fits m) (all_fit ms) s)).0 in
-      by_cases (eqb x m.0) (λ e. rw e (unexpected m.1 (λ q. omega arith))) (λ e. rw e (refuse ms (and_r (fits m) (all_fit ms) s)))
+      by_cases (eqb x m.0) (λ e. rw e (unexpected m.1 (λ r q. let z : Record (Refused r) = rw q at l in omega arith))) (λ e. rw e (refuse ms (and_r (fits m) (all_fit ms) s)))
 
   other : UnexpectedMark ≡ not_due (kind_of x)
   unfolding kind_of
@@ -159,9 +150,9 @@ module _ (rest : List ℕ) where
     is-marked = let o = opens d (sym q ∙ e) h in rw (le-leb 2 (length rest) o.0, eq-eqb (mark rest) (mark_of d) o.1)
 
   -- another kind than the one that is due
-  module _ (k d : Kind) (e : k ≡ kind_at rest) (m : Record d) (h : tag k ≡ tag d → ⊥) where
+  module _ (k d : Kind) (e : k ≡ kind_at rest) (m : Record d) (h : k ≡ d → ⊥) where
     differs : 2 ≤ length rest → mark rest ≡ mark_of d → ⊥
-    differs l s = h (ap tag (e ∙ sym (long l) ∙ ap kind_of s) ∙ own d m)
+    differs l s = h (e ∙ sym (long l) ∙ ap kind_of s ∙ own d m)
 
     pub not-due : mark_test (mark_of d) rest ≡ answer.Refused (not_due k)
     unfolding mark_test

@@ -1,5 +1,5 @@
 -- The tests of a record as the reader goes through them, and what a record that passes them shows. Assumes nothing.
-use mathlib.Core.Path.{◌≡◌, refl, sym, ap, ◌∙◌}
+use mathlib.Core.Path.{◌≡◌, refl, sym, ◌∙◌}
 use mathlib.Core.Bool.{◌&&◌}
 use mathlib.Core.List.{List}
 use Prim.Native.Nat.{ℕ, ◌+◌, ◌-◌, ◌^◌, ◌≤◌, ◌<◌}
@@ -25,7 +25,7 @@ use Rattle.state.proofs.TestSteps.{or-last}
 use Rattle.netread.specs.declared.Kind.{Kind}
 use Rattle.netread.specs.declared.Kind.TheVariants.{Gate, WideGate}
 use Rattle.netread.specs.Kind.{kind_at, not_due, field_tests}
-use Rattle.netread.proofs.Marks.{tag, is-due, not-due, is-marked, not-marked}
+use Rattle.netread.proofs.Marks.{is-due, not-due, is-marked, not-marked}
 use Rattle.netread.proofs.Steps.{whole_part}
 
 pub short : (size : ℕ) (rest : List ℕ) → length rest < size → length_test size rest ≡ Refused Truncated
@@ -80,14 +80,14 @@ module _ (limit : ℕ) (rest : List ℕ) (k : Kind) (e : k ≡ kind_at rest) whe
   pub narrow-record : k ≡ Gate → first (drop 1 (gate_tests narrow limit rest)) ≡ gate_record limit rest
   unfolding gate_record
   narrow-record q =
-      let other : tag k ≡ tag WideGate → ⊥ = λ s. let t = ap tag q in omega arith in
+      let other : k ≡ WideGate → ⊥ = λ s. let t : Gate ≡ WideGate = sym q ∙ s in cc in
       rw (not-marked rest k WideGate e (omega arith) other, is-due rest k Gate e q (omega arith))
 
   pub wide-record : k ≡ WideGate → first (drop 1 (gate_tests wide limit rest)) ≡ gate_record limit rest
   unfolding gate_record
   wide-record q = rw (is-marked rest k WideGate e q (omega arith), is-due rest k WideGate e q (omega arith))
 
-  pub no-gate : (tag k ≡ tag Gate → ⊥) → (tag k ≡ tag WideGate → ⊥) → Refused (not_due k) ≡ gate_record limit rest
+  pub no-gate : (k ≡ Gate → ⊥) → (k ≡ WideGate → ⊥) → Refused (not_due k) ≡ gate_record limit rest
   unfolding gate_record
   no-gate a b = rw (not-marked rest k WideGate e (omega arith) b, not-due rest k Gate e (omega arith) a)
 
