@@ -2,7 +2,7 @@
 use mathlib.Core.Path.{◌≡◌, refl, sym, ap, ◌∙◌}
 use mathlib.Core.Bool.{Bool, true, false}
 use mathlib.Core.List.{List, [], ◌∷◌, ◌++◌, append_assoc}
-use Prim.Native.Nat.{ℕ, ◌+◌}
+use Prim.Native.Nat.{ℕ}
 use Rattle.text.specs.Words.{Text, before, keep, words}
 use Rattle.text.proofs.Parts.{behind, words_step}
 use Rattle.blif.specs.Text.{is_blank, is_newline, is_hash, fields, statement, statements, spaced, text}

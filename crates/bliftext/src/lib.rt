@@ -1,4 +1,6 @@
 // BLIF: lines, words and names of a lent text, by their places in it.
+#![tactic(auto)]
+
 ghost use Rattle.std.specs.Prelude.{◌≡◌, true, not, ◌||◌, ◌+◌, ◌≤◌, ◌<◌, length, drop};
 ghost use Rattle.text.specs.Words.{is_printing, before};
 ghost use Rattle.blif.specs.Text.{is_blank, fields};
@@ -9,7 +11,7 @@ ghost use Rattle.bliftext.specs.Class.{in_class, LineAt, NextOf};
 ghost use Rattle.bliftext.specs.Spans.{WordAt};
 
 // What a byte is looked for as.
-#[derive(Drop)]
+#[derive(Clone, Copy)]
 pub enum Class {
     Newline,
     Hash,
