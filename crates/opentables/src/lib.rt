@@ -1,4 +1,6 @@
 // Of the loaded network: open tables, rule 7, from the rows of the values and of H.
+#![tactic(auto)]
+
 ghost use Rattle.std.specs.Prelude.{◌≡◌, ◌+◌, ◌*◌, ◌^◌, ◌<◌, ◌≤◌, get_or};
 ghost use Rattle.std.specs.Int.Bits.{bit_or};
 ghost use Rattle.bits.specs.Bounds.{most_inputs, row_words};
