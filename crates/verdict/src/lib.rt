@@ -1,4 +1,6 @@
 // The calls: the search for harm. What other tables do: the first pattern, and there the lowest output, at which the loaded outputs change.
+#![tactic(auto)]
+
 ghost use Rattle.std.specs.Prelude.{◌≡◌, ℕ, ◌+◌, ◌*◌, ◌<◌, ◌≤◌, get_or};
 ghost use Rattle.bits.specs.Bounds.{row_words};
 ghost use Rattle.bits.specs.Range.{any};
