@@ -1,5 +1,7 @@
 // The calls: a list of replacements. The tests of each gate with its table, and all of the tables put in place.
 // The loops take counts and arrays: a session handed on for each pair would be 1.4 kB copied each time.
+#![tactic(auto)]
+
 ghost use Rattle.std.specs.Prelude.{◌≡◌, ◌&&◌, [], ◌+◌, ◌≤◌, leb, ltb, length};
 ghost use Rattle.bits.specs.Bounds.{most_inputs};
 ghost use Rattle.bits.specs.Bit.{bit};
