@@ -1,4 +1,6 @@
 // Programs: what an order on a board is answered, and what the desk promises of it.
+#![tactic(auto)]
+
 use network::Refusal;
 
 #[derive(Drop)]
