@@ -1,4 +1,6 @@
 // Of the current network: the ODC, rule 3. Where an output shows that a gate is inverted, 64 patterns a word. Word w of gate g stands at place ROW_WORDS * g + w.
+#![tactic(auto)]
+
 ghost use Rattle.std.specs.Prelude.{◌≡◌, ◌&&◌, not, List, ℕ, ◌+◌, ◌*◌, ◌^◌, ◌<◌, ◌≤◌, length, get_or};
 ghost use Rattle.std.specs.Int.Bits.{bit_or, bit_xor};
 ghost use Rattle.bits.specs.Bounds.{row_words};
