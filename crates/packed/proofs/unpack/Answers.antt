@@ -1,0 +1,36 @@
+-- `unpack`: the tests in their order. Assumes nothing.
+use mathlib.Core.Path.{sym, ◌∙◌}
+use native.Mathlib.Omega.{arith}
+use borrow.Author.Tests.{ltb-true}
+use lib.Dec.{ltb}
+use lib.ListN.{get_or}
+use Rattle.bits.proofs.Ranges.{every-e}
+use Rattle.packed.specs.Packed.{byte_words}
+use Rattle.packed.proofs.Reading.{too_short, no_byte, tested}
+use Rattle.packed.proofs.unpack.Goals as goal
+
+pub returns-then-words-lt-SESSION_WORDS : goal.returns-then-words-lt-SESSION_WORDS
+returns-then-words-lt-SESSION_WORDS c = c.refused.ensures ∙ too_short c.args.words.now (omega arith)
+
+pub returns-then-not-fit : goal.returns-then-not-fit
+returns-then-not-fit c =
+    c.refused-then-not-fit.ensures
+    ∙ no_byte c.args.words.now (omega arith) (sym c.fit.ensures ∙ c.if-not-fit.true)
+
+pub session_in-s-requires : goal.session_in-s-requires
+session_in-s-requires c =
+    let ws = c.args.words.now in
+    let e = sym c.fit.ensures ∙ c.if-not-fit.false in
+    record { session_words_in_bounds = omega arith; by_index = λ i h. ltb-true (get_or ws i 0) 256 (every-e byte_words (λ j. ltb (get_or ws j 0) 256) e i h) }
+
+pub returns-in-Refused : goal.returns-in-Refused
+returns-in-Refused c =
+    let ws = c.args.words.now in
+    let e = sym c.fit.ensures ∙ c.if-not-fit.false in
+    c.refused-in-Refused.ensures ∙ tested ws c.session_in-s.result (omega arith) e c.session_in-s.ensures c.state_test-v.ensures c.in-Refused.is
+
+pub returns : goal.returns
+returns c =
+    let ws = c.args.words.now in
+    let e = sym c.fit.ensures ∙ c.if-not-fit.false in
+    tested ws c.session_in-s.result (omega arith) e c.session_in-s.ensures c.state_test-v.ensures c.in_default.is
