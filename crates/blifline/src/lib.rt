@@ -1,4 +1,6 @@
 // What one line of a BLIF text gives: the tests of each kind of line, rows and the cover's table, names as places.
+#![tactic(auto)]
+
 ghost use Rattle.std.specs.Prelude.{◌≡◌, true, not, map, ◌+◌, ◌-◌, ◌≤◌, ◌<◌, length, take, drop};
 ghost use Rattle.std.proofs.lemmas.List.Edits.{sets};
 ghost use Rattle.bits.specs.Bounds.{gate_places};

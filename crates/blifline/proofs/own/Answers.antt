@@ -4,39 +4,25 @@ use mathlib.Core.List.{[]}
 use Prim.Native.Nat.{ℕ, ◌-◌, ◌≤◌}
 use native.Mathlib.Omega.{arith}
 use lib.ListN.{length, drop, length-drop}
-use borrow.Author.Rules.{rules}
 use Rattle.blif.specs.Text.{fields}
 use Rattle.blif.specs.Read.{known, names}
 use Rattle.bliftext.proofs.Spans.{none_left}
 use Rattle.blifline.proofs.Lists.{last-is}
 use Rattle.blifline.proofs.Tests.{own_is}
-use Rattle.blifline.proofs.own.Statement.{statement}
-use Rattle.blifline.proofs.own.Tie as tie
+use Rattle.blifline.proofs.own.Goals as goal
 
-word-from-requires : tie.Need-word-from-requires
-word-from-requires c κs = search rules
-
-count-requires : tie.Need-count-requires
-count-requires c κs = search rules
-
-less-one-requires : tie.Need-less-one-requires
-less-one-requires c κs = search rules
-
-word-at-requires : tie.Need-word-at-requires
-word-at-requires c κs = search rules
-
-returns : tie.Need-returns
+pub returns : goal.returns
 returns c =
-    let a = c.before.before.before.before.before.args in
+    let a = c.args in
     let line = fields (drop a.at a.s.now) in
-    let w = c.before.before.before.word-from in
-    let n = c.before.before.count in
-    let k = c.before.less_one in
+    let w = c.word_from-w in
+    let n = c.count in
+    let k = c.less_one-k in
     let fs = fields (drop w.result.end a.s.now) in
     let behind = w.ensures.behind in
     let x = c.word_at in
     let e : k.result ≡ length fs - 1 = k.ensures ∙ ap (λ (m : ℕ). m - 1) n.ensures in
-    let long : 1 ≤ length fs = (rw (← behind) at c.before.before.before.before.before.requires.1) in
+    let long : 1 ≤ length fs = (rw (← behind) at c.requires.1) in
     let some : (x.result.start ≡ x.result.end → ⊥) = λ z.
     (let none : drop k.result fs ≡ [] = x.ensures.reads ∙ none_left a.s.now x.result (omega arith) in
     let m : length fs - k.result ≡ 0 = sym (length-drop k.result fs) ∙ ap length none in
@@ -46,8 +32,3 @@ returns c =
       upto = x.ensures.upto;
       inside = x.ensures.inside;
     }
-
-pub own-spec : {M : Type 1} → statement M
-own-spec =
-    tie.close
-    (tie.spec word-from-requires count-requires less-one-requires word-at-requires returns)
