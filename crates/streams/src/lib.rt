@@ -1,40 +1,53 @@
 // Programs: what they share, a file read until it ends and text printed.
-ghost use Rattle.std.specs.Prelude.{length};
+#![tactic(auto)]
+
+ghost use Rattle.std.specs.Prelude.{◌≤◌, length, IfOk};
 ghost use Rattle.streams.specs.Taken.{Within};
 
-use libc::{STDERR_FILENO, STDOUT_FILENO};
+use std::io::{self, Print, Read};
 
 // So many bytes at the start of a buffer, or none: they could not be had, or have no room.
-#[derive(Drop)]
+#[derive(Clone, Copy)]
 pub enum Taken {
     Bytes(usize),
     Failed,
 }
 
-// Reads until the file ends or the buffer is full: a pipe gives a file in pieces.
-pub fn read_all(fd: i32, file: &mut [u8]) -> Taken
-    ensures { Within result (length file.new) }
+// Reads until the file ends or the buffer is full: a pipe gives a file in pieces. Or else says why it cannot be read.
+pub fn read_from<R: Read>(source: &mut R, file: &mut [u8]) -> io::Result<usize>
+    ensures { IfOk result (λ n. n ≤ length file.new) }
 {
     let mut n: usize = 0;
     while n < file.len() {
-        let got = libc::read(fd, &mut file[n..]);
-        if got < 0 {
-            return Taken::Failed;
-        }
-        let more = io::count(got, &file[n..]);
+        let more = source.read(&mut file[n..])?;
         if more == 0 {
-            return Taken::Bytes(n);
+            return Ok(n);
         }
         n += more;
     }
-    Taken::Bytes(n)
+    Ok(n)
+}
+
+// The same, where it does not matter why a file cannot be read.
+pub fn read_all<R: Read>(source: &mut R, file: &mut [u8]) -> Taken
+    ensures { Within result (length file.new) }
+{
+    match read_from(source, file) {
+        Ok(n) => Taken::Bytes(n),
+        Err(_) => Taken::Failed,
+    }
 }
 
 // Whether the text could be printed; where not, this is told. No contract can say what was written.
-pub fn print(text: &[u8]) -> bool {
-    if io::write_all(STDOUT_FILENO, text) {
+pub fn print(rt: HostRuntime, text: &[u8]) -> bool {
+    if rt.stdout().write_all(text).is_ok() {
         return true;
     }
-    io::write_all(STDERR_FILENO, b"cannot write the output\n");
+    tell(rt, b"cannot write the output\n");
     false
+}
+
+// Tells it on standard error, where that can be written.
+pub fn tell(rt: HostRuntime, text: &[u8]) {
+    let _ = rt.stderr().write_all(text);
 }
