@@ -1,4 +1,6 @@
 // A BLIF text: from bytes to a network.
+#![tactic(auto)]
+
 ghost use Rattle.std.specs.Prelude.{◌≡◌, List, [], map, ◌+◌, ◌≤◌, ◌<◌, length, take, drop, set};
 ghost use Rattle.bits.specs.Bounds.{most_inputs, gate_places};
 ghost use Rattle.network.specs.declared.Answer.TheVariants.{Refused};

@@ -87,7 +87,7 @@ pub fn same(a: &[u8], b: &[u8]) -> bool
 }
 
 // A line that has words: its first word starts at `at`, its last word ends before `end`, the next line starts at `next`.
-#[derive(Drop)]
+#[derive(Clone, Copy)]
 pub struct Line {
     pub at: usize,
     pub end: usize,

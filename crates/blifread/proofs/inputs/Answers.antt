@@ -1,0 +1,19 @@
+-- `blifread::inputs` meets its contract. Assumes nothing.
+use mathlib.Core.Path.{◌∙◌}
+use Rattle.blifread.proofs.Phases.{inputs-refused, inputs-done}
+use Rattle.blifread.proofs.inputs.Goals as goal
+
+pub returns-in-Refused : goal.returns-in-Refused
+returns-in-Refused c =
+    let a = c.args in
+    let x = c.names_line-x in
+    c.refused.ensures ∙ inputs-refused a.text.now a.at x.result x.ensures _ c.in-Refused.is
+
+pub outputs-requires : goal.outputs-requires
+outputs-requires c = let g = c.names_line-x.ensures.given c.in_default.is in (g.place, g.few, g.held.inside)
+
+pub returns : goal.returns
+returns c =
+    let a = c.args in
+    let x = c.names_line-x in
+    inputs-done a.text.now a.at x.result x.ensures c.outputs.result c.in_default.is c.outputs.ensures
