@@ -1,4 +1,6 @@
 // Of the current network: SDC, CDC and full tables, rules 1, 2 and 4, from rows of words. The CDC is request Two's.
+#![tactic(auto)]
+
 ghost use Rattle.std.specs.Prelude.{◌≡◌, ◌&&◌, not, List, ℕ, ◌+◌, ◌*◌, ◌%◌, ◌^◌, ◌<◌, ◌≤◌, eqb, length, get_or};
 ghost use Rattle.bits.specs.Bounds.{row_words};
 ghost use Rattle.bits.specs.Range.{any};
