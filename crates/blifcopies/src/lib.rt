@@ -1,4 +1,6 @@
 // BLIF: the network that goes out, with a copying gate for each output that needs one.
+#![tactic(auto)]
+
 ghost use Rattle.std.specs.Prelude.{◌≡◌, ◌+◌, ◌*◌, ◌<◌, ◌≤◌, length};
 ghost use Rattle.bits.specs.Bounds.{most_inputs};
 ghost use Rattle.bits.specs.Range.{num, count};

@@ -100,7 +100,9 @@ module _ (s : Session) where
   blocks-text zero h = refl
   blocks-text (suc g) h =
       let b = block-text (arity_of s g) (fanin_at s g) (get_or s.current g 0) (s.n + g) in
-      text-append (blocks_lines N g) (block_lines (gate N (s.n + g)) (s.n + g)) ∙ rw (blocks-text g (omega arith), gate-is g (omega arith), b)
+      text-append (blocks_lines N g) (block_lines (gate N (s.n + g)) (s.n + g))
+      ∙ ap (λ (t : Text). t ++ text (block_lines (gate N (s.n + g)) (s.n + g))) (blocks-text g (omega arith))
+      ∙ ap (λ (t : Text). blocks_bytes s g ++ t) (ap (λ (b : Gate). text (block_lines b (s.n + g))) (gate-is g (omega arith)) ∙ b)
 
 gather : (p i a n o b k e : Text)
     → p ++ ((i ++ a) ++ (n ++ ((o ++ b) ++ (n ++ (k ++ e))))) ≡ ((((((p ++ i) ++ a) ++ (n ++ o)) ++ b) ++ n) ++ k) ++ e

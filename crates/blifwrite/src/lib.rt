@@ -1,4 +1,6 @@
 // BLIF: from a network to its text, line after line in a lent buffer.
+#![tactic(auto)]
+
 ghost use Rattle.std.specs.Prelude.{◌≡◌, ℕ, ◌+◌, ◌*◌, ◌^◌, ◌<◌, ◌≤◌, length, get_or};
 ghost use Rattle.bits.specs.Bounds.{most_inputs};
 ghost use Rattle.bits.specs.Range.{num};
