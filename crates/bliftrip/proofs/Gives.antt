@@ -26,7 +26,7 @@ use Rattle.network.proofs.Reached.{no_bits, zero-wide, done-whole, opened-fault,
 use Rattle.text.specs.Ascii.{ascii}
 use Rattle.text.specs.Words.{Text, all}
 use Rattle.blif.specs.Text.{statements}
-use Rattle.blif.specs.Read.{same, opens, names, place_in, known, Draft, end_tests, finished, read_rest, line_test, with_line, read_blocks, names_tests, begun, read_outputs, read_inputs, model_test, read_model, read_blif, read_blif_of}
+use Rattle.blif.specs.Read.{opens, names, place_in, known, Draft, end_tests, finished, read_rest, line_test, with_line, read_blocks, names_tests, begun, read_outputs, read_inputs, model_test, read_model, read_blif, read_blif_of}
 use Rattle.bliftrip.specs.Trip.{BlifValid}
 use Rattle.bliftrip.proofs.Places.{all-known-e, map_at}
 use Rattle.bliftrip.proofs.Drafts.{Drafted, line-drafted}

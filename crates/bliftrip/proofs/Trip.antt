@@ -15,7 +15,7 @@ use Rattle.network.specs.declared.Session.{Session}
 use Rattle.network.specs.declared.Refusal.TheVariants.{FaninNotEarlier, FaninRepeated}
 use Rattle.network.specs.declared.Answer.TheVariants.{Done}
 use Rattle.network.specs.Bounds.{most_gates, most_outputs, most_fanins}
-use Rattle.network.specs.Net.{Gate, Net, arity, no_gate, gate}
+use Rattle.network.specs.Net.{Gate, Net, no_gate}
 use Rattle.network.specs.Flat.{gate_at, gates_of, net_of, loaded_net, current_net}
 use Rattle.network.specs.Tests.{refuse_if, member, fanin_test, fanins_test}
 use Rattle.network.specs.State.{arity_of, fanins_of, state_test}
