@@ -1,5 +1,7 @@
 // The calls, in a session that is valid: what `engine` does after refusal 10, and a call for other languages after unpacking.
 // Callers test the session.
+#![tactic(auto)]
+
 ghost use Rattle.std.specs.Prelude.{◌≡◌, not, ◌&&◌, [], ◌∷◌, ◌^◌, ◌≤◌, length};
 ghost use Rattle.bits.specs.Range.{smallest};
 ghost use Rattle.bits.specs.Bit.{bit, differs};

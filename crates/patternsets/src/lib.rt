@@ -1,4 +1,6 @@
 // The calls: the stretches of a lent buffer of words. Each gate's words fill their own, ODC first, then H.
+#![tactic(auto)]
+
 ghost use Rattle.std.specs.Prelude.{◌≡◌, ◌++◌, ◌+◌, ◌*◌, ◌<◌, ◌≤◌, length, drop, get_or};
 ghost use Rattle.bits.specs.Bounds.{row_words};
 ghost use Rattle.bits.specs.Range.{places};
