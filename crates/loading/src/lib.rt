@@ -1,5 +1,7 @@
 // Load, and a BLIF text read: a session with its open tables, or no state. Neither has a `requires`: whatever is passed, a call gives what its
 // definition says, refusals included.
+#![tactic(auto)]
+
 ghost use Rattle.std.specs.Prelude.{◌≡◌};
 ghost use Rattle.network.specs.declared.Answer.TheVariants.{Done};
 ghost use Rattle.network.specs.State.{state_fault};
