@@ -1,5 +1,7 @@
 // The calls on a session: refusal 10 and then the call in a valid session. None has a `requires`: whatever is passed, a call gives what its
 // definition says, refusals included.
+#![tactic(auto)]
+
 ghost use Rattle.std.specs.Prelude.{◌≡◌};
 ghost use Rattle.network.specs.Calls.{exchange_answer, exchange_of, verdict_of, tables_of, pattern_sets_of, counts_of, written_of};
 ghost use Rattle.blif.specs.Write.{write_blif_of};

@@ -1,4 +1,6 @@
 // Programs: the text of a listing, put into a lent buffer.
+#![tactic(auto)]
+
 ghost use Rattle.std.specs.Prelude.{◌≡◌, ◌+◌, ◌*◌, ◌<◌, ◌≤◌, length};
 ghost use Rattle.buffer.specs.Laid.{Laid};
 ghost use Rattle.network.specs.declared.Answer.TheVariants.{Done};
@@ -21,7 +23,7 @@ pub const MOST_LISTING_BYTES: usize = 26 + MOST_ROW_BYTES * MOST_GATES + 16;
 
 // What the listing of a network shows: n inputs, m gates, and of each gate three tables of so many digits and the number of hidden
 // patterns.
-#[derive(Drop)]
+#[derive(Clone, Copy)]
 pub struct Columns {
     pub n: u64,
     pub m: usize,
