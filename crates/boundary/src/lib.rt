@@ -1,4 +1,6 @@
 // Other languages: what the calls share.
+#![tactic(auto)]
+
 ghost use Rattle.std.specs.Prelude.{◌≡◌, [], ◌∷◌, ◌*◌, ◌≤◌, ltb, length};
 ghost use Rattle.bits.specs.Lists.{overwritten};
 ghost use Rattle.network.specs.declared.Answer.TheVariants.{Done};

@@ -1,4 +1,6 @@
 // Programs: the reply to an order, and the board on which it is done.
+#![tactic(auto)]
+
 ghost use Rattle.std.specs.Prelude.{◌≡◌, ◌≤◌, length};
 ghost use Rattle.network.specs.declared.Answer.TheVariants.{Done};
 ghost use Rattle.network.specs.Bounds.{most_file_bytes};

@@ -10,7 +10,7 @@ use Rattle.network.specs.declared.Refusal.{Refusal}
 use Rattle.network.specs.declared.Answer.{Answer}
 use Rattle.network.specs.declared.Answer.TheVariants.{Done}
 use Rattle.network.specs.Net.{Net, arity, is_gate, gate as gate_of, patterns, excluded_for, output, Replacement}
-use Rattle.network.specs.DontCares.{sdc, NeverGiven, full}
+use Rattle.network.specs.DontCares.{sdc, NeverGiven}
 use Rattle.network.specs.Compatible.{compatible_count, compatible_total}
 use Rattle.network.specs.Flat.{loaded_net, current_net}
 use Rattle.network.specs.Refusals.{number_of, said}
@@ -18,7 +18,7 @@ use Rattle.network.specs.Tests.{member, first}
 use Rattle.network.specs.State.{arity_of}
 use Rattle.network.specs.Load.{load_of, load_done}
 use Rattle.network.specs.Write.{bytes_of}
-use Rattle.network.specs.Calls.{fits, pairs, gate_tables, stored, room_test, set_words}
+use Rattle.network.specs.Calls.{pairs, gate_tables, stored, room_test, set_words}
 use Rattle.network.specs.Lists.{Sound, FirstFault}
 use Rattle.network.specs.Sessions.{after, answer_by, NoHarm, FirstHarm, Demand3}
 use Rattle.roundtrip.specs.OldFile.{old_load_of, old_bytes_of}
