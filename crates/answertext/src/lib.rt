@@ -1,4 +1,6 @@
 // Programs: the text of the answer to an order.
+#![tactic(auto)]
+
 ghost use Rattle.std.specs.Prelude.{◌≡◌, [], ◌++◌, ◌-◌, ◌<◌, ◌≤◌, length, get_or};
 ghost use Rattle.bits.specs.Bounds.{most_inputs};
 ghost use Rattle.network.specs.Flat.{loaded_net};

@@ -1,4 +1,6 @@
 // Other languages: the calls on a BLIF text. A session from a text, and the text of a session.
+#![tactic(auto)]
+
 ghost use Rattle.std.specs.Prelude.{◌≡◌, []};
 ghost use Rattle.promises.specs.Boundary.{read_blif_call, write_blif_call};
 

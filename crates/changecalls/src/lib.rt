@@ -1,4 +1,6 @@
 // Other languages: the calls on replacements: the verdict on a list of them, and the exchange of one.
+#![tactic(auto)]
+
 ghost use Rattle.std.specs.Prelude.{◌≡◌, []};
 ghost use Rattle.promises.specs.Boundary.{verdict_call, exchange_call};
 

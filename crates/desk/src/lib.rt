@@ -3,7 +3,7 @@
 
 use network::Refusal;
 
-#[derive(Drop)]
+#[derive(Clone, Copy)]
 pub enum Reply {
     // Harmless, and so is each pair with any other exchange that is accepted.
     Open,

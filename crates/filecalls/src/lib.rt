@@ -1,4 +1,6 @@
 // Other languages: the calls on a file. A session from its bytes, its bytes from a session, its listing.
+#![tactic(auto)]
+
 ghost use Rattle.std.specs.Prelude.{◌≡◌, []};
 ghost use Rattle.promises.specs.Boundary.{load_call, write_call, listing_call};
 

@@ -1,4 +1,6 @@
 // Other languages: the calls that tell what the gates of a session have: tables, pattern sets, counts.
+#![tactic(auto)]
+
 ghost use Rattle.std.specs.Prelude.{◌≡◌, []};
 ghost use Rattle.promises.specs.Boundary.{tables_call, all_tables_call, pattern_sets_call, hidden_call};
 

@@ -12,7 +12,7 @@ pub const MOST_ORDER_BYTES: usize = 1024;
 pub const MOST_PAIRS: usize = MOST_ORDER_BYTES / 4;
 
 // What the text has: so many pairs; else the first word that is none, from place `at` on and before `end`; or no word.
-#[derive(Drop)]
+#[derive(Clone, Copy)]
 pub enum Case {
     Pairs(usize),
     NoPair { at: usize, end: usize },
@@ -20,7 +20,7 @@ pub enum Case {
 }
 
 // Pair i names signal gates[i] and table tables[i]; the gate's name stands in the text from starts[i] on and before ends[i].
-#[derive(Drop)]
+#[derive(Clone, Copy)]
 pub struct Order {
     pub case: Case,
     pub gates: [u64; MOST_PAIRS],
@@ -30,7 +30,7 @@ pub struct Order {
 }
 
 // A pair by its numbers: signal, table, and how long the gate's name is.
-#[derive(Drop)]
+#[derive(Clone, Copy)]
 pub struct Split {
     pub signal: u64,
     pub table: u64,
