@@ -14,7 +14,7 @@ use Rattle.network.specs.declared.Answer.TheVariants.{Done, Refused}
 use Rattle.network.specs.Refusals.{number_of}
 use Rattle.network.specs.Tests.{first}
 use Rattle.network.specs.State.{state_test}
-use Rattle.network.specs.Calls.{room_test, filled, Written, with_length}
+use Rattle.network.specs.Calls.{room_test, filled, with_length}
 use Rattle.network.proofs.TestLaws.{alone, stopped, went_on}
 use Rattle.blif.specs.Write.{blif_text, copies_test, write_blif_of}
 use Rattle.bliftrip.proofs.Ends.{copies-by}

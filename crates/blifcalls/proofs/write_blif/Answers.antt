@@ -14,35 +14,28 @@ use Rattle.promises.specs.Boundary.{write_blif_work, write_blif_call}
 use Rattle.promises.proofs.Leaves.{Leaves, worked, room-passed, down, opens}
 use Rattle.blifcalls.proofs.Writes.{unasked, early, given, short}
 use Rattle.blifcalls.proofs.write_blif.Goals as goal
-use Rattle.blifcalls.proofs.write_blif.Goals.{After-room-a, After-unpack-l, Start}
+use Rattle.blifcalls.proofs.write_blif.Goals.{After-room-a}
 
 -- what is known where the session passes its tests and the copies are counted
-
 module _ (r : After-room-a) where
-  abbrev unpacked : After-unpack-l
-  unpacked = r.before
-
-  abbrev start : Start
-  start = unpacked.before
-
   abbrev s : Session
-  s = unpacked.unpack.result.session
+  s = r.unpack-l.result.session
 
   abbrev text : List ℕ
-  text = start.args.text.now
+  text = r.args.text.now
 
   abbrev out : List ℕ
-  out = start.args.out.now
+  out = r.args.out.now
 
   counted : r.room-a.result ≡ first (copies_test s ∷ room_test 1 out ∷ [])
   counted = r.room-a.ensures ∙ ap {B = Answer} (λ (y : Answer). first (y ∷ room_test 1 out ∷ [])) r.copies_test-counted.ensures
 
   valid : state_test s ≡ Done
-  valid = (opens (write_blif_work text out) start.args.session.now text out unpacked.unpack.ensures (unasked unpacked.unpack.result.answer out) r.in_default.is).valid
+  valid = (opens (write_blif_work text out) r.args.session.now text out r.unpack-l.ensures (unasked r.unpack-l.result.answer out) r.in_default.is).valid
 
-  leaves : {k : ℕ} {b o : List ℕ} → Leaves (worked (write_blif_work text out s) text out) k b o → Leaves (write_blif_call start.args.session.now text out) k b o
+  leaves : {k : ℕ} {b o : List ℕ} → Leaves (worked (write_blif_work text out s) text out) k b o → Leaves (write_blif_call r.args.session.now text out) k b o
   unfolding write_blif_call
-  leaves = (opens (write_blif_work text out) start.args.session.now text out unpacked.unpack.ensures (unasked unpacked.unpack.result.answer out) r.in_default.is).leaves
+  leaves = (opens (write_blif_work text out) r.args.session.now text out r.unpack-l.ensures (unasked r.unpack-l.result.answer out) r.in_default.is).leaves
 
 pub returns-in-Refused : goal.returns-in-Refused
 unfolding write_blif_call
@@ -58,10 +51,13 @@ copies_test-counted-requires c =
 
 pub returns-in-Refused-a : goal.returns-in-Refused-a
 returns-in-Refused-a c =
-    leaves c (early (s c) (text c) (out c) (counted c) c.in-Refused-a.is c.number_of-in-Refused-a.ensures.0)
+    let r = (goal.at.returns-in-Refused-a c).After-room-a in
+    leaves r (early (s r) (text r) (out r) (counted r) c.in-Refused-a.is c.number_of-in-Refused-a.ensures.0)
 
 pub write-requires : goal.write-requires
-write-requires c = state-e (s c) (valid c)
+write-requires c =
+    let r = (goal.at.write-requires c).After-room-a in
+    state-e (s r) (valid r)
 
 pub give-requires : goal.give-requires
 give-requires c =
@@ -70,8 +66,10 @@ give-requires c =
 
 pub returns-in-Written : goal.returns-in-Written
 returns-in-Written c =
-    leaves c (given (s c) (text c) (out c) (counted c) c.in_default-a.is (valid c) c.write.ensures c.in-Written.is c.give.ensures)
+    let r = (goal.at.returns-in-Written c).After-room-a in
+    leaves r (given (s r) (text r) (out r) (counted r) c.in_default-a.is (valid r) c.write.ensures c.in-Written.is c.give.ensures)
 
 pub returns-in-Refused-write : goal.returns-in-Refused-write
 returns-in-Refused-write c =
-    leaves c (short (s c) (text c) (out c) (counted c) c.in_default-a.is (valid c) c.write.ensures c.in-Refused-write.is c.number_of-in-Refused-write.ensures.0)
+    let r = (goal.at.returns-in-Refused-write c).After-room-a in
+    leaves r (short (s r) (text r) (out r) (counted r) c.in_default-a.is (valid r) c.write.ensures c.in-Refused-write.is c.number_of-in-Refused-write.ensures.0)
