@@ -115,9 +115,6 @@ past (x ∷ l) (suc i) h = past l i (omega arith)
 pub no-reason : (k : ℕ) → 8 < k → get_or reasons (k - 1) [] ≡ []
 no-reason k h = past reasons (k - 1) (omega arith)
 
-pub above : (j k : ℕ) → j < k → (k ≡ suc j → ⊥) → suc j < k
-above j k h n = omega arith
-
 pub number-least : (r : Refusal) (k : ℕ) → k ≡ number_of r → 1 ≤ k
 number-least r k e = let h = told-by (λ t. 1 ≤ t.0) (λ n l. l) (λ t. omega arith) (λ x i. omega arith) r in omega arith
 

@@ -1,6 +1,8 @@
 // Other languages: the names that the library exports, each one call of a crate above with the same contract.
 // A slice is passed as a pointer and a length. None has a `requires`.
 // Each returns the number of its refusal, or 0; a refusal changes nothing but the values that it names in `out`.
+#![tactic(auto)]
+
 ghost use Rattle.std.specs.Prelude.{◌≡◌, []};
 ghost use Rattle.packed.specs.Packed.{session_words};
 ghost use Rattle.promises.specs.Boundary.{load_call, read_blif_call, listing_call, tables_call, all_tables_call, pattern_sets_call, hidden_call, verdict_call, exchange_call, write_call, write_blif_call};

