@@ -10,7 +10,7 @@ fn main() {
     let archive = folder.join("libcapi.a");
     assert!(
         archive.is_file(),
-        "{} is missing: 'rt staticlib capi' writes it, or TUSQIRMA_LIB names its folder",
+        "{} is missing: 'tools/build capi' writes it, or TUSQIRMA_LIB names its folder",
         archive.display()
     );
     println!("cargo:rustc-link-search=native={}", folder.display());
