@@ -1,41 +1,42 @@
 -- `put_open`: the closed entry, or open. Assumes nothing.
+use mathlib.Core.Path.{◌≡◌}
 use Prim.Native.Nat.{ℕ}
-use lib.ListN.{drop}
+use lib.ListN.{get_or}
+use Rattle.network.specs.declared.Answer.{Answer}
+use Rattle.network.specs.declared.Answer.TheVariants.{Refused}
+use Rattle.network.specs.declared.Refusal.{Refusal}
+use Rattle.network.specs.Refusals.{values_of}
+use Rattle.buffer.specs.Laid.{Room}
 use Rattle.text.specs.Words.{Text}
 use Rattle.desk.specs.Answer.{open_text}
 use Rattle.answertext.proofs.Pieces.{Due, due, due-room, due-next, due-done}
 use Rattle.answertext.proofs.Printed.{closed_pieces, closed-pieces, entry-few}
 use Rattle.answertext.proofs.put_open.Goals as goal
-use Rattle.answertext.proofs.put_open.Goals.{After-first_value-t, After-put_numbered-b, Start}
 
-abbrev start : After-first_value-t → Start
-start c = c.before
-
--- so many pieces are laid
-abbrev Left : After-first_value-t → Text → ℕ → ℕ → Type 0
-Left c b a k = let x = (start c).args in Due x.buf.now x.at (open_text x.a) b a (drop k (closed_pieces c.first_value-t.result))
-
-none : (c : After-first_value-t) → Left c (start c).args.buf.now (start c).args.at 0
-none c =
-    let s = start c in
-    let f = c.a-1.given in
-    let v = c.first_value-t in
-    due s.args.buf.now s.args.at (closed_pieces v.result) (closed-pieces s.args.a f.0.0 v.result f.1 v.ensures) s.pre.1
-
-one : (c : After-put_numbered-b) → Left c.before c.put_numbered-b.new.buf c.put_numbered-b.result 1
-one c = due-next (none c.before) c.put_numbered-b.ensures
+-- no piece is laid
+none : (b : Text) (at : ℕ) (a : Answer) (r : Refusal) (t : ℕ) → a ≡ Refused r → t ≡ get_or (values_of r) 0 0 → Room b at (open_text a)
+    → Due b at (open_text a) b at (closed_pieces t)
+none b at a r t e v h = due b at (closed_pieces t) (closed-pieces a r t e v) h
 
 pub put_numbered-b-requires : goal.put_numbered-b-requires
 put_numbered-b-requires c =
-    let f = c.a-1.given in
+    let x = c.args in
+    let r = c.in-Refused.r in
+    let e = c.in-Refused.is in
     let v = c.first_value-t in
-    (entry-few (start (goal.at.put_numbered-b-requires c).After-first_value-t).args.a f.0.0 v.result f.1 v.ensures (start (goal.at.put_numbered-b-requires c).After-first_value-t).requires.0, due-room (none (goal.at.put_numbered-b-requires c).After-first_value-t))
+    (entry-few x.a r v.result e v.ensures c.requires.0, due-room (none x.buf.now x.at x.a r v.result e v.ensures c.requires.1))
 
 pub copy-requires : goal.copy-requires
-copy-requires c = due-room (one (goal.at.copy-requires c).After-put_numbered-b)
+copy-requires c =
+    let x = c.args in
+    let v = c.first_value-t in
+    due-room (due-next (none x.buf.now x.at x.a c.in-Refused.r v.result c.in-Refused.is v.ensures c.requires.1) c.put_numbered-b.ensures)
 
 pub returns-in-Refused : goal.returns-in-Refused
-returns-in-Refused c = due-done (due-next (one (goal.at.returns-in-Refused c).After-put_numbered-b) c.copy.ensures)
+returns-in-Refused c =
+    let x = c.args in
+    let v = c.first_value-t in
+    due-done (due-next (due-next (none x.buf.now x.at x.a c.in-Refused.r v.result c.in-Refused.is v.ensures c.requires.1) c.put_numbered-b.ensures) c.copy.ensures)
 
 pub copy-requires-2 : goal.copy-requires-2
 copy-requires-2 c = rw c.in_default.is at c.requires.1
