@@ -1,5 +1,4 @@
 -- `put_file_refused`: piece after piece. Assumes nothing.
-use Prim.Native.Nat.{ℕ}
 use native.Mathlib.Omega.{arith}
 use Rattle.desk.specs.Answer.{file_line}
 use Rattle.answertext.proofs.Pieces.{Due, due, due-room, due-next, due-done}
@@ -23,8 +22,8 @@ copy-b-requires c = due-room (due-next (none (goal.at.copy-b-requires c).After-n
 
 pub put_reason-c-requires : goal.put_reason-c-requires
 put_reason-c-requires c = (
-    number-least c.args.r c.number_of-k.result c.number_of-k.ensures.0,
-    due-room (due-next (due-next (none (goal.at.put_reason-c-requires c).After-number_of-k) c.put_numbered-a.ensures) c.copy-b.ensures),
+  number-least c.args.r c.number_of-k.result c.number_of-k.ensures.0,
+  due-room (due-next (due-next (none (goal.at.put_reason-c-requires c).After-number_of-k) c.put_numbered-a.ensures) c.copy-b.ensures),
 )
 
 pub copy-requires : goal.copy-requires

@@ -1,6 +1,5 @@
 -- `put_lines_on`: none, or those passed. Assumes nothing.
 use mathlib.Core.Path.{refl}
-use Prim.Native.Nat.{◌-◌}
 use native.Mathlib.Omega.{arith}
 use Rattle.buffer.proofs.Laying.{laid-length}
 use Rattle.answertext.proofs.Printed.{nothing-laid, lines_none, lines-some, on_room, on-next, on-done}
