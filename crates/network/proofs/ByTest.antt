@@ -14,8 +14,9 @@ use Rattle.bits.specs.Range.{smallest}
 use Rattle.network.specs.declared.Session.{Session}
 use Rattle.network.specs.declared.Refusal.{Refusal}
 use Rattle.network.specs.declared.Refusal.TheVariants.{BufferTooShort, InvalidState, NotAGate, TableTooWide, ClosedEntry, Harm, ListsUnequal, GateRepeated}
-use Rattle.network.specs.declared.Answer.{Answer}
-use Rattle.network.specs.declared.Answer.TheVariants.{Done, Refused}
+use Rattle.network.specs.Answer.{Answer}
+use Rattle.network.specs.Answer.{Done}
+use Rattle.std.specs.Prelude.{Ok, Err}
 use Rattle.network.specs.Net.{Net, is_gate, entries, Replacement}
 use Rattle.network.specs.Tests.{refuse_if, or_else, first, member}
 use Rattle.network.specs.State.{state_fault, as_invalid, state_test}
@@ -29,38 +30,38 @@ Before Q behind a = Q (or_else a behind)
 module _ (Q : Answer → Type 0) where
   -- ## One test
 
-  pub if-by : (b : Bool) (r : Refusal) → Q (Refused r) → (b ≡ false → Q Done) → Q (refuse_if b r)
+  pub if-by : (b : Bool) (r : Refusal) → Q (Err r) → (b ≡ false → Q Done) → Q (refuse_if b r)
   if-by true r p q = p
   if-by false r p q = q refl
 
-  pub not-by : (b : Bool) (r : Refusal) → Q (Refused r) → (b ≡ true → Q Done) → Q (refuse_if (not b) r)
+  pub not-by : (b : Bool) (r : Refusal) → Q (Err r) → (b ≡ true → Q Done) → Q (refuse_if (not b) r)
   not-by b r p q = if-by (not b) r p (λ e. q (not-false b e))
 
   -- 9
-  pub room_by : (needed : ℕ) (buffer : List ℕ) → Q (Refused BufferTooShort) → (needed ≤ length buffer → Q Done) → Q (room_test needed buffer)
+  pub room_by : (needed : ℕ) (buffer : List ℕ) → Q (Err BufferTooShort) → (needed ≤ length buffer → Q Done) → Q (room_test needed buffer)
   room_by needed buffer p q = if-by (ltb (length buffer) needed) BufferTooShort p (λ e. q (ltb-false (length buffer) needed e))
 
   -- 10
-  pub state-by : (s : Session) → Q (Refused InvalidState) → (state_test s ≡ Done → Q Done) → Q (state_test s)
+  pub state-by : (s : Session) → Q (Err InvalidState) → (state_test s ≡ Done → Q Done) → Q (state_test s)
   unfolding state_test
   state-by s p q = go (state_fault s) q
     where
       go : (a : Answer) → (as_invalid a ≡ Done → Q Done) → Q (as_invalid a)
-      go Done q = q refl
-      go (Refused r) q = p
+      go (Ok _) q = q refl
+      go (Err r) q = p
 
   -- 11
-  pub gate-by : (N : Net) (g : ℕ) → Q (Refused NotAGate) → (is_gate N g ≡ true → Q Done) → Q (gate_test N g)
+  pub gate-by : (N : Net) (g : ℕ) → Q (Err NotAGate) → (is_gate N g ≡ true → Q Done) → Q (gate_test N g)
   unfolding gate_test
   gate-by N g = not-by (is_gate N g) NotAGate
 
   -- 12
-  pub table-by : (N : Net) (r : Replacement) → Q (Refused TableTooWide) → (fits N r ≡ true → Q Done) → Q (table_test N r)
+  pub table-by : (N : Net) (r : Replacement) → Q (Err TableTooWide) → (fits N r ≡ true → Q Done) → Q (table_test N r)
   unfolding table_test
   table-by N r = not-by (fits N r) TableTooWide
 
   -- 13
-  pub closed-by : (N : Net) (shut : ℕ → Bool) (r : Replacement) → ((t : ℕ) → Q (Refused (ClosedEntry t))) → Q Done → Q (closed_test N shut r)
+  pub closed-by : (N : Net) (shut : ℕ → Bool) (r : Replacement) → ((t : ℕ) → Q (Err (ClosedEntry t))) → Q Done → Q (closed_test N shut r)
   unfolding closed_test
   closed-by N shut r p q = go (smallest (entries N r.signal) (λ t. shut t && alters N r t))
     where
@@ -69,19 +70,19 @@ module _ (Q : Answer → Type 0) where
       go Nothing = q
 
   -- 14
-  pub harm-by : (L M : Net) → ((x i : ℕ) → Q (Refused (Harm x i))) → Q Done → Q (harm_test L M)
+  pub harm-by : (L M : Net) → ((x i : ℕ) → Q (Err (Harm x i))) → Q Done → Q (harm_test L M)
   harm-by L M p q = ⊎_elim (λ e. rw e q) (λ f. rw f.2 (p f.0 f.1)) (harm-only L M)
 
   -- 15
-  pub lengths-by : (gs ts : List ℕ) → Q (Refused ListsUnequal) → (length gs ≡ length ts → Q Done) → Q (lengths_test gs ts)
+  pub lengths-by : (gs ts : List ℕ) → Q (Err ListsUnequal) → (length gs ≡ length ts → Q Done) → Q (lengths_test gs ts)
   unfolding lengths_test
   lengths-by gs ts p q = not-by (eqb (length gs) (length ts)) ListsUnequal p (λ e. q (eqb-true (length gs) (length ts) e))
 
   -- ## A list of tests
 
   pub or-by : (a b : Answer) → Q a → Q b → Q (or_else a b)
-  or-by Done b p q = q
-  or-by (Refused r) b p q = p
+  or-by (Ok _) b p q = q
+  or-by (Err r) b p q = p
 
   abbrev pub Each : List Answer → Type 0
   Each [] = Unit {0}
@@ -92,7 +93,7 @@ module _ (Q : Answer → Type 0) where
   first_by done (a ∷ rest) p = or-by a (first rest) p.0 (first_by done rest p.1)
 
   -- 11, 16 and 12 of each pair
-  pub pairs-by : (N : Net) (named : List ℕ) (rs : List Replacement) → Q (Refused NotAGate) → Q (Refused GateRepeated) → Q (Refused TableTooWide) → Q Done
+  pub pairs-by : (N : Net) (named : List ℕ) (rs : List Replacement) → Q (Err NotAGate) → Q (Err GateRepeated) → Q (Err TableTooWide) → Q Done
       → Q (pairs_test N named rs)
   unfolding pair_test
   pairs-by N named [] g t w done = done

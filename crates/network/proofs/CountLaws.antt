@@ -8,8 +8,9 @@ use lib.ListN.{get_or}
 use Rattle.bits.specs.Bounds.{most_inputs}
 use Rattle.bits.proofs.Cuts.{count-le}
 use Rattle.network.specs.declared.Session.{Session}
-use Rattle.network.specs.declared.Answer.{Answer}
-use Rattle.network.specs.declared.Answer.TheVariants.{Done}
+use Rattle.network.specs.Answer.{Answer}
+use Rattle.network.specs.Answer.{Done}
+use Rattle.std.specs.Prelude.{Ok, Err}
 use Rattle.network.specs.Bounds.{most_gates}
 use Rattle.network.specs.Net.{Net, patterns}
 use Rattle.network.specs.Compatible.{compatible, compatible_count, compatible_total}

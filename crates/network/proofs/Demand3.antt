@@ -13,8 +13,9 @@ use Rattle.bits.proofs.Ranges.{and_l, and_r, and_i, by_cases, length-places, pla
 use Rattle.bits.proofs.Logic.{clash, and-not, differs-e}
 use Rattle.network.specs.declared.Session.{Session}
 use Rattle.network.specs.declared.Refusal.TheVariants.{NotAGate, TableTooWide, ClosedEntry}
-use Rattle.network.specs.declared.Answer.{Answer}
-use Rattle.network.specs.declared.Answer.TheVariants.{Done, Refused}
+use Rattle.network.specs.Answer.{Answer}
+use Rattle.network.specs.Answer.{Done}
+use Rattle.std.specs.Prelude.{Ok, Err}
 use Rattle.network.specs.Bounds.{most_gates}
 use Rattle.network.specs.Net.{Gate, Net, is_gate, gate, entries, patterns, excluded_for, output, Replacement, with_table}
 use Rattle.network.specs.Compatible.{closed}
@@ -36,7 +37,7 @@ use Rattle.network.proofs.Reached.{loaded-fresh}
 -- the answer of an exchange, from what is said of it
 abbrev answer_said : List ℕ → Answer
 answer_said [] = Done
-answer_said (n ∷ vs) = cond (eqb n 11) (Refused NotAGate) (cond (eqb n 12) (Refused TableTooWide) (Refused (ClosedEntry (get_or vs 0 0))))
+answer_said (n ∷ vs) = cond (eqb n 11) (Err NotAGate) (cond (eqb n 12) (Err TableTooWide) (Err (ClosedEntry (get_or vs 0 0))))
 
 module _ (N : Net) (r : Replacement) where
   abbrev altered : ℕ → Bool
@@ -96,11 +97,11 @@ KeepsClosed N k table = (t : ℕ) → t < entries N k → closed N k t ≡ true 
 
 took-keeps : (N : Net) (r : Replacement) (k table : ℕ) (a : Answer) → Cause N r a → KeepsClosed N k table → KeepsClosed N k (took a r k table)
 unfolding alters
-took-keeps N r k table Done w keeps = by_cases (eqb r.signal k) (λ e. rw e (new (eqb-true r.signal k e))) (λ e. rw e keeps)
+took-keeps N r k table (Ok _) w keeps = by_cases (eqb r.signal k) (λ e. rw e (new (eqb-true r.signal k e))) (λ e. rw e keeps)
   where
     new : r.signal ≡ k → KeepsClosed N k r.table
     new e = subst (λ (k : ℕ). KeepsClosed N k r.table) e (λ t l c. sym (differs-e _ _ (rw c at ((accepts-e w).2 t l))))
-took-keeps N r k table (Refused f) w keeps = keeps
+took-keeps N r k table (Err f) w keeps = keeps
 
 pub last-keeps : (N : Net) (rs : List Replacement) (k table : ℕ) → KeepsClosed N k table → KeepsClosed N k (last_accepted N rs k table)
 last-keeps N [] k table keeps = keeps
@@ -133,10 +134,10 @@ module _ (s : Session) (rs : List Replacement) (ts : List ℕ)
 -- ## Two neighbours at different gates may change places
 
 took-swap : (a b : Answer) (q r : Replacement) → q.signal ≢ r.signal → (k t : ℕ) → took b r k (took a q k t) ≡ took a q k (took b r k t)
-took-swap Done Done q r ne k t =
+took-swap (Ok _) (Ok _) q r ne k t =
     by_cases (eqb q.signal k) (λ e. rw (e, ne_eqb r.signal k (λ f. ne (eqb-true q.signal k e ∙ sym f)))) (λ e. rw e)
-took-swap Done (Refused f) q r ne k t = refl
-took-swap (Refused f) b q r ne k t = refl
+took-swap (Ok _) (Err f) q r ne k t = refl
+took-swap (Err f) b q r ne k t = refl
 
 pub last-append : (N : Net) (qs rs : List Replacement) (k t : ℕ) → last_accepted N (qs ++ rs) k t ≡ last_accepted N rs k (last_accepted N qs k t)
 last-append N [] rs k t = refl

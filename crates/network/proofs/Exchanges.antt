@@ -19,8 +19,9 @@ use Rattle.bits.proofs.Search.{Smallest, smallest-is, smallest-eq, smallest-ext}
 use Rattle.network.specs.declared.Session.{Session}
 use Rattle.network.specs.declared.Exchanged.{Exchanged}
 use Rattle.network.specs.declared.Refusal.TheVariants.{NotAGate, TableTooWide, ClosedEntry, BitPastEnd}
-use Rattle.network.specs.declared.Answer.{Answer}
-use Rattle.network.specs.declared.Answer.TheVariants.{Done, Refused}
+use Rattle.network.specs.Answer.{Answer}
+use Rattle.network.specs.Answer.{Done}
+use Rattle.std.specs.Prelude.{Ok, Err}
 use Rattle.network.specs.Bounds.{most_gates}
 use Rattle.network.specs.Net.{Net, arity, is_gate, gate, entries, Replacement}
 use Rattle.network.specs.Compatible.{closed, open_table, open_tables}
@@ -46,9 +47,9 @@ Altered N shut r = Smallest (entries N r.signal) (λ t. shut t && alters N r t)
 
 -- why an answer is given
 pub data Because (N : Net) (shut : ℕ → Bool) (r : Replacement) : Answer → Type 0 where
-  no-gate : is_gate N r.signal ≡ false → Because N shut r (Refused NotAGate)
-  too_wide : is_gate N r.signal ≡ true → fits N r ≡ false → Because N shut r (Refused TableTooWide)
-  closes : (t : ℕ) → is_gate N r.signal ≡ true → fits N r ≡ true → Altered N shut r (At t) → Because N shut r (Refused (ClosedEntry t))
+  no-gate : is_gate N r.signal ≡ false → Because N shut r (Err NotAGate)
+  too_wide : is_gate N r.signal ≡ true → fits N r ≡ false → Because N shut r (Err TableTooWide)
+  closes : (t : ℕ) → is_gate N r.signal ≡ true → fits N r ≡ true → Altered N shut r (At t) → Because N shut r (Err (ClosedEntry t))
   accepts : is_gate N r.signal ≡ true → fits N r ≡ true → Altered N shut r Nothing → Because N shut r Done
 
 module _ (N : Net) (shut : ℕ → Bool) (r : Replacement) where
@@ -73,13 +74,13 @@ module _ (N : Net) (shut : ℕ → Bool) (r : Replacement) where
   only-because (accepts p q w) = rw (p, q, smallest-eq (entries N r.signal) (λ t. shut t && alters N r t) Nothing w)
 
 module _ {N : Net} {shut : ℕ → Bool} {r : Replacement} where
-  pub no-gate-e : Because N shut r (Refused NotAGate) → is_gate N r.signal ≡ false
+  pub no-gate-e : Because N shut r (Err NotAGate) → is_gate N r.signal ≡ false
   no-gate-e (no-gate p) = p
 
-  pub too-wide-e : Because N shut r (Refused TableTooWide) → (is_gate N r.signal ≡ true) × (fits N r ≡ false)
+  pub too-wide-e : Because N shut r (Err TableTooWide) → (is_gate N r.signal ≡ true) × (fits N r ≡ false)
   too-wide-e (too_wide p q) = (p, q)
 
-  pub closes-e : {t : ℕ} → Because N shut r (Refused (ClosedEntry t)) → (is_gate N r.signal ≡ true) × (fits N r ≡ true) × Altered N shut r (At t)
+  pub closes-e : {t : ℕ} → Because N shut r (Err (ClosedEntry t)) → (is_gate N r.signal ≡ true) × (fits N r ≡ true) × Altered N shut r (At t)
   closes-e (closes u p q w) = (p, q, w)
 
   pub accepts-e : Because N shut r Done → (is_gate N r.signal ≡ true) × (fits N r ≡ true) × Altered N shut r Nothing
@@ -233,7 +234,7 @@ record Turn (s : Session) (ts : List ℕ) (r : Replacement) (a : Answer) : Type 
   tables : (g : ℕ) → get_or next g 0 ≡ took a r (s.n + g) (get_or ts g 0)
 
 turn : (s : Session) → Fresh s → (ts : List ℕ) (r : Replacement) (a : Answer) → Cause (loaded_net s) r a → ValidTables s ts → Turn s ts r a
-turn s fresh ts r Done w fine =
+turn s fresh ts r (Ok _) w fine =
     let c = accepts-e w in
     let b = gate-e s r.signal c.0 in
     record {
@@ -242,7 +243,7 @@ turn s fresh ts r Done w fine =
       fine = stored-valid s fresh ts r c.0 c.1 fine;
       tables = set_at s.n r.signal r.table ts b.0 (omega (arith, gates-most s fresh));
     }
-turn s fresh ts r (Refused f) w fine = record { next = ts; gives = refl; fine = fine; tables = λ g. refl }
+turn s fresh ts r (Err f) w fine = record { next = ts; gives = refl; fine = fine; tables = λ g. refl }
 
 -- ## A list of exchanges
 

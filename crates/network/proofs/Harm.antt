@@ -15,8 +15,9 @@ use Rattle.bits.proofs.Ranges.{lt-cases}
 use Rattle.bits.proofs.Logic.{clash}
 use Rattle.bits.proofs.Search.{Smallest, smallest-is}
 use Rattle.network.specs.declared.Refusal.TheVariants.{Harm}
-use Rattle.network.specs.declared.Answer.{Answer}
-use Rattle.network.specs.declared.Answer.TheVariants.{Done, Refused}
+use Rattle.network.specs.Answer.{Answer}
+use Rattle.network.specs.Answer.{Done}
+use Rattle.std.specs.Prelude.{Ok, Err}
 use Rattle.network.specs.Net.{Net, patterns, pattern_order}
 use Rattle.network.specs.DontCares.{harms}
 use Rattle.network.specs.Refusals.{said}
@@ -28,7 +29,7 @@ use Rattle.network.proofs.Said.{said-done}
 module _ (L M : Net) where
   -- what the search can come to
   abbrev Outcome : Answer → Type 0
-  Outcome a = ((a ≡ Done) × NoHarm L M (patterns L)) ⊎ ((x : ℕ) × (i : ℕ) × (a ≡ Refused (Harm x i)) × FirstHarm L M x i)
+  Outcome a = ((a ≡ Done) × NoHarm L M (patterns L)) ⊎ ((x : ℕ) × (i : ℕ) × (a ≡ Err (Harm x i)) × FirstHarm L M x i)
 
   -- from a on, where no pattern below a harms
   search_is : (c a : ℕ) → patterns L ≡ a + c → NoHarm L M a → Outcome (harm_in L M (up_from a c))
@@ -50,7 +51,7 @@ module _ (L M : Net) where
   harm-is = search_is (patterns L) 0 (omega arith) (λ x i h. absurd (not-suc-le-zero h))
 
   -- 14 or nothing
-  pub harm-only : (harm_test L M ≡ Done) ⊎ ((x : ℕ) × (i : ℕ) × (harm_test L M ≡ Refused (Harm x i)))
+  pub harm-only : (harm_test L M ≡ Done) ⊎ ((x : ℕ) × (i : ℕ) × (harm_test L M ≡ Err (Harm x i)))
   harm-only = ⊎_elim (λ n. inl n.0) (λ f. inr (f.0, f.1, f.2)) harm-is
 
   -- the first harm is one
@@ -79,7 +80,7 @@ module _ (L M : Net) where
   pub harm-none : (said (harm_test L M) ≡ []) ↔ NoHarm L M (patterns L)
   harm-none = let d = said-done (harm_test L M) in (λ e. harm-done.0 (d.0 e), λ none. d.1 (harm-done.1 none))
 
-  pub harm-answer : (x i : ℕ) → FirstHarm L M x i → harm_test L M ≡ Refused (Harm x i)
+  pub harm-answer : (x i : ℕ) → FirstHarm L M x i → harm_test L M ≡ Err (Harm x i)
   harm-answer x i h =
       ⊎_elim (λ n. clash h.harm (n.1 x i h.pattern h.output))
       (λ f. let o = harm-one f.3 h in rw (sym o.0, sym o.1) f.2) harm-is

@@ -17,8 +17,9 @@ use Rattle.bits.proofs.Logic.{clash}
 use Rattle.network.specs.declared.Session.{Session}
 use Rattle.network.specs.declared.Refusal.{Refusal}
 use Rattle.network.specs.declared.Refusal.TheVariants.{NotAGate, TableTooWide, GateRepeated}
-use Rattle.network.specs.declared.Answer.{Answer}
-use Rattle.network.specs.declared.Answer.TheVariants.{Done, Refused}
+use Rattle.network.specs.Answer.{Answer}
+use Rattle.network.specs.Answer.{Done}
+use Rattle.std.specs.Prelude.{Ok, Err}
 use Rattle.network.specs.Net.{Net, is_gate, Replacement, signals, new_tables, replaced}
 use Rattle.network.specs.Flat.{loaded_net, current_net}
 use Rattle.network.specs.Refusals.{said}
@@ -66,10 +67,10 @@ unfolding verdict_of lengths_test pair_test
 lone_of s r = go (state_test s) (gate_test (loaded_net s) r.signal) (table_test (loaded_net s) r) (harm_test (loaded_net s) (replaced (current_net s) (r ∷ [])))
   where
     go : (a b c d : Answer) → first (a ∷ Done ∷ or_else (first (b ∷ Done ∷ c ∷ [])) Done ∷ d ∷ []) ≡ first (a ∷ b ∷ c ∷ d ∷ [])
-    go (Refused f) b c d = refl
-    go Done (Refused f) c d = refl
-    go Done Done (Refused f) d = refl
-    go Done Done Done d = refl
+    go (Err f) b c d = refl
+    go (Ok _) (Err f) c d = refl
+    go (Ok _) (Ok _) (Err f) d = refl
+    go (Ok _) (Ok _) (Ok _) d = refl
 
 -- ## One pair: is it a gate, is it named, does its table fit
 
@@ -156,15 +157,15 @@ module _ (N : Net) where
     behind : List Replacement
     whole : rs ≡ before ++ fault ∷ behind
     sound : Sound N named before
-    refused : pair_test N (onto named before) fault ≡ Refused f
+    refused : pair_test N (onto named before) fault ≡ Err f
 
-  fault-e : (f : Refusal) (named : List ℕ) (rs : List Replacement) → pairs_test N named rs ≡ Refused f → Fault named rs f
+  fault-e : (f : Refusal) (named : List ℕ) (rs : List Replacement) → pairs_test N named rs ≡ Err f → Fault named rs f
   fault-e f named [] e = refused-done f (sym e)
   fault-e f named (r ∷ rs) e = go (pair_test N named r) refl (fault-e f (r.signal ∷ named) rs) e
     where
-      go : (a : Answer) → pair_test N named r ≡ a → (pairs_test N (r.signal ∷ named) rs ≡ Refused f → Fault (r.signal ∷ named) rs f)
-          → or_else a (pairs_test N (r.signal ∷ named) rs) ≡ Refused f → Fault named (r ∷ rs) f
-      go Done k next e =
+      go : (a : Answer) → pair_test N named r ≡ a → (pairs_test N (r.signal ∷ named) rs ≡ Err f → Fault (r.signal ∷ named) rs f)
+          → or_else a (pairs_test N (r.signal ∷ named) rs) ≡ Err f → Fault named (r ∷ rs) f
+      go (Ok _) k next e =
           let p = pair-e named r k in
           let w = next e in
           record {
@@ -175,7 +176,7 @@ module _ (N : Net) where
             sound = (p.0, p.1, p.2, w.sound);
             refused = w.refused;
           }
-      go (Refused g) k next e = record { before = []; fault = r; behind = rs; whole = refl; sound = tt; refused = k ∙ e }
+      go (Err g) k next e = record { before = []; fault = r; behind = rs; whole = refl; sound = tt; refused = k ∙ e }
 
   -- a sound list hands the test on to what stands behind it
   sound-append : (named : List ℕ) (before behind : List Replacement) → Sound N named before → pairs_test N named (before ++ behind) ≡ pairs_test N (onto named before) behind

@@ -16,8 +16,9 @@ use Rattle.bits.proofs.Ranges.{lt-cases, length-places, by_cases}
 use Rattle.network.specs.declared.Session.{Session}
 use Rattle.network.specs.declared.Loaded.{Loaded}
 use Rattle.network.specs.declared.Refusal.TheVariants.{TrailingBytes}
-use Rattle.network.specs.declared.Answer.{Answer}
-use Rattle.network.specs.declared.Answer.TheVariants.{Done}
+use Rattle.network.specs.Answer.{Answer}
+use Rattle.network.specs.Answer.{Done}
+use Rattle.std.specs.Prelude.{Ok, Err}
 use Rattle.network.specs.Bounds.{most_gates, most_outputs, most_fanins, excluded_words}
 use Rattle.network.specs.Compatible.{open_table, open_tables}
 use Rattle.network.specs.Flat.{loaded_net, current_net}

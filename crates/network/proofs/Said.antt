@@ -7,14 +7,15 @@ use native.Mathlib.Omega.{arith}
 use lib.ListN.{length}
 use Rattle.network.specs.declared.Refusal.{Refusal}
 use Rattle.network.specs.declared.Refusal.TheVariants.{Truncated, UnexpectedMark, OutOfBounds, FaninNotEarlier, FaninRepeated, BitPastEnd, NotASignal, TrailingBytes, BufferTooShort, InvalidState, NotAGate, TableTooWide, ClosedEntry, Harm, ListsUnequal, GateRepeated, OutsideSubset, BadName}
-use Rattle.network.specs.declared.Answer.{Answer}
-use Rattle.network.specs.declared.Answer.TheVariants.{Done, Refused}
+use Rattle.network.specs.Answer.{Answer}
+use Rattle.network.specs.Answer.{Done}
+use Rattle.std.specs.Prelude.{Ok, Err}
 use Rattle.network.specs.Refusals.{told, said}
 
 -- nothing is said exactly where nothing is refused
 pub said-done : (a : Answer) → (said a ≡ []) ↔ (a ≡ Done)
-said-done Done = (λ e. refl, λ e. refl)
-said-done (Refused r) = (λ e. absurd (omega (arith, ap length e)), λ e. ap said e)
+said-done (Ok _) = (λ e. refl, λ e. refl)
+said-done (Err r) = (λ e. absurd (omega (arith, ap length e)), λ e. ap said e)
 
 -- what a refusal tells: a number that is not 0 and no values, 13 and an entry, or 14, a pattern and an output
 module _ (P : ℕ × List ℕ → Type 0) (plain : (n : ℕ) → 1 ≤ n → P (n, [])) (entry : (t : ℕ) → P (13, t ∷ [])) (harm : (x i : ℕ) → P (14, x ∷ i ∷ [])) where

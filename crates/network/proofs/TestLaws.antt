@@ -15,14 +15,15 @@ use Rattle.network.specs.declared.Session.{Session}
 use Rattle.network.specs.declared.Loaded.{Loaded}
 use Rattle.network.specs.declared.Refusal.{Refusal}
 use Rattle.network.specs.declared.Refusal.TheVariants.{Truncated, OutOfBounds, FaninNotEarlier, BitPastEnd, NotASignal}
-use Rattle.network.specs.declared.Answer.{Answer}
-use Rattle.network.specs.declared.Answer.TheVariants.{Done, Refused}
+use Rattle.network.specs.Answer.{Answer}
+use Rattle.network.specs.Answer.{Done}
+use Rattle.std.specs.Prelude.{Ok, Err}
 use Rattle.network.specs.Tests.{refuse_if, or_else, first, length_test, mark, mark_test, count_test, range_test, fanin_test, fanins_test, width_test, output_test}
 use Rattle.network.specs.Load.{load_done, onward}
 
 -- ## Answers
 
-pub refused-done : {P : Type 0} (r : Refusal) → Refused r ≡ Done → P
+pub refused-done : {P : Type 0} (r : Refusal) → Err r ≡ Done → P
 refused-done r h = let z : ◌≡◌ {A = ℕ} 0 1 = cc in let e : ⊥ = omega arith in absurd e
 
 -- what refuses nothing found nothing
@@ -36,8 +37,8 @@ kept b r h = not-false b (passed (not b) r h)
 -- ## A list of tests
 
 pub both : (a b : Answer) → or_else a b ≡ Done → (a ≡ Done) × (b ≡ Done)
-both Done b h = (refl, h)
-both (Refused r) b h = refused-done r h
+both (Ok _) b h = (refl, h)
+both (Err r) b h = refused-done r h
 
 -- none of the tests refuses
 abbrev pub Clear : List Answer → Type 0
@@ -53,17 +54,17 @@ clear-i [] h = refl
 clear-i (a ∷ rest) h = rw h.0 (clear-i rest h.1)
 
 pub alone : (a : Answer) → a ≡ first (a ∷ [])
-alone Done = refl
-alone (Refused r) = refl
+alone (Ok _) = refl
+alone (Err r) = refl
 
 first-append : (xs ys : List Answer) → first (xs ++ ys) ≡ or_else (first xs) (first ys)
 first-append [] ys = refl
-first-append (Done ∷ xs) ys = first-append xs ys
-first-append (Refused r ∷ xs) ys = refl
+first-append ((Ok _) ∷ xs) ys = first-append xs ys
+first-append (Err r ∷ xs) ys = refl
 
 -- v is the answer of the tests xs, which stand before ys
 module _ {v : Answer} (xs ys : List Answer) (e : v ≡ first xs) where
-  pub stopped : {r : Refusal} → v ≡ Refused r → v ≡ first (xs ++ ys)
+  pub stopped : {r : Refusal} → v ≡ Err r → v ≡ first (xs ++ ys)
   stopped k = k ∙ sym (first-append xs ys ∙ ap (λ (a : Answer). or_else a (first ys)) (sym e ∙ k))
 
   pub went_on : v ≡ Done → first ys ≡ first (xs ++ ys)
@@ -144,10 +145,10 @@ fanins-e limit fs h r l =
 -- ## A load that is not refused went on
 
 pub went : (a : Answer) (l : Loaded) (u : Session) → onward a l ≡ load_done u → (a ≡ Done) × (l ≡ load_done u)
-went Done l u h = (refl, h)
-went (Refused r) l u h = refused-done r (ap (λ (x : Loaded). x.answer) h)
+went (Ok _) l u h = (refl, h)
+went (Err r) l u h = refused-done r (ap (λ (x : Loaded). x.answer) h)
 
 -- two loads that go on alike
 pub onward-ext : (a : Answer) (l l' : Loaded) → (a ≡ Done → l ≡ l') → onward a l ≡ onward a l'
-onward-ext Done l l' f = f refl
-onward-ext (Refused r) l l' f = refl
+onward-ext (Ok _) l l' f = f refl
+onward-ext (Err r) l l' f = refl

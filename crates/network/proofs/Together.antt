@@ -10,7 +10,7 @@ use lib.ListN.{length, get_or, set, length-set}
 use Rattle.bits.proofs.Ranges.{or-false, by_cases, length-places}
 use Rattle.bits.proofs.Logic.{beq-i}
 use Rattle.network.specs.declared.Session.{Session}
-use Rattle.network.specs.declared.Answer.{Answer}
+use Rattle.network.specs.Answer.{Answer}
 use Rattle.network.specs.Bounds.{most_gates}
 use Rattle.network.specs.Net.{Net, is_gate, patterns, excluded_for, output, Replacement, replaced}
 use Rattle.network.specs.DontCares.{harms}

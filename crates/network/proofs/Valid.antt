@@ -6,8 +6,9 @@ use lib.ListN.{get_or}
 use Rattle.bits.specs.Bounds.{most_inputs, gate_places}
 use Rattle.bits.proofs.Ranges.{length-places, places-at}
 use Rattle.network.specs.declared.Session.{Session}
-use Rattle.network.specs.declared.Answer.{Answer}
-use Rattle.network.specs.declared.Answer.TheVariants.{Done, Refused}
+use Rattle.network.specs.Answer.{Answer}
+use Rattle.network.specs.Answer.{Done}
+use Rattle.std.specs.Prelude.{Ok, Err}
 use Rattle.network.specs.Bounds.{most_gates, most_outputs, most_fanins}
 use Rattle.network.specs.Tests.{count_test, fanins_test, width_test, excluded_test}
 use Rattle.network.specs.State.{arity_of, fanins_of, gate_tests, gate_fault, output_fault, state_tests, state_fault, as_invalid, state_test}
@@ -68,8 +69,8 @@ unfolding state_test
 state-e s e = go (state_fault s) e
   where
     go : (a : Answer) → as_invalid a ≡ Done → a ≡ Done
-    go Done e = refl
-    go (Refused r) e = refused-done _ e
+    go (Ok _) e = refl
+    go (Err r) e = refused-done _ e
 
 pub state-i : (s : Session) → state_fault s ≡ Done → state_test s ≡ Done
 unfolding state_test

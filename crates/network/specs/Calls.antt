@@ -11,14 +11,18 @@ use Rattle.network.specs.declared.Session.{Session}
 use Rattle.network.specs.declared.Exchanged.{Exchanged}
 use Rattle.network.specs.declared.Sdc.{Sdc}
 use Rattle.network.specs.declared.Tables.{Tables}
-use Rattle.network.specs.declared.TablesAnswer.{TablesAnswer}
-use Rattle.network.specs.declared.TablesAnswer.TheVariants as tables
-use Rattle.network.specs.declared.WriteAnswer.{WriteAnswer}
-use Rattle.network.specs.declared.WriteAnswer.TheVariants as write
+use Rattle.std.specs.Prelude.{Result}
+use Rattle.network.specs.declared.Tables.{Tables}
+use Rattle.network.specs.declared.Refusal.{Refusal}
+use Rattle.std.specs.Prelude.{Ok, Err}
+use Rattle.std.specs.Prelude.{Result}
+use Rattle.network.specs.declared.Refusal.{Refusal}
+use Rattle.std.specs.Prelude.{Ok, Err}
 use Rattle.network.specs.declared.Counts.{Counts}
 use Rattle.network.specs.declared.Refusal.TheVariants.{BufferTooShort, NotAGate, TableTooWide, ClosedEntry, Harm, ListsUnequal, GateRepeated}
-use Rattle.network.specs.declared.Answer.{Answer}
-use Rattle.network.specs.declared.Answer.TheVariants.{Done, Refused}
+use Rattle.network.specs.Answer.{Answer}
+use Rattle.network.specs.Answer.{Done}
+use Rattle.std.specs.Prelude.{Ok, Err}
 use Rattle.network.specs.Bounds.{most_gates}
 use Rattle.network.specs.Net.{Net, is_gate, gate, entries, pattern_order, Replacement, signals, new_tables, replaced}
 use Rattle.network.specs.DontCares.{sdc, cdc, odc, full, harms}
@@ -46,7 +50,7 @@ unfoldable pub alters : Net → Replacement → ℕ → Bool
 alters N r t = differs (bit (gate N r.signal).table t) (bit r.table t)
 
 abbrev pub entry_found : Found → Answer
-entry_found (At t) = Refused (ClosedEntry t)
+entry_found (At t) = Err (ClosedEntry t)
 entry_found Nothing = Done
 
 -- 13: alters an entry that is shut, naming the smallest; N is the loaded network
@@ -54,7 +58,7 @@ unfoldable pub closed_test : Net → (ℕ → Bool) → Replacement → Answer
 closed_test N shut r = entry_found (smallest (entries N r.signal) (λ t. shut t && alters N r t))
 
 abbrev pub output_found : ℕ → Found → Answer
-output_found x (At i) = Refused (Harm x i)
+output_found x (At i) = Err (Harm x i)
 output_found x Nothing = Done
 
 -- the first of the patterns xs at which some output i below p has h x i, and there the lowest such output
@@ -101,8 +105,8 @@ exchange_answer s r = first (state_test s ∷ exchange_tests (loaded_net s) (hel
 
 -- a refused exchange hands on the session that it got
 abbrev pub exchanged : Answer → Session → Replacement → Exchanged
-exchanged Done s r = record { answer = Done; session = stored s r }
-exchanged (Refused f) s r = record { answer = Refused f; session = s }
+exchanged (Ok _) s r = record { answer = Done; session = stored s r }
+exchanged (Err f) s r = record { answer = Err f; session = s }
 
 unfoldable pub exchange_of : Session → Replacement → Exchanged
 exchange_of s r = exchanged (exchange_answer s r) s r
@@ -161,11 +165,11 @@ gate_tables s g = record {
   open_table = get_or s.open_tables (g - s.n) 0;
 }
 
-abbrev pub given_tables : Answer → Tables → TablesAnswer
-given_tables Done t = tables.Given t
-given_tables (Refused r) t = tables.Refused r
+abbrev pub given_tables : Answer → Tables → Result Tables Refusal
+given_tables (Ok _) t = Ok t
+given_tables (Err r) t = Err r
 
-unfoldable pub tables_of : Session → ℕ → TablesAnswer
+unfoldable pub tables_of : Session → ℕ → Result Tables Refusal
 tables_of s g = given_tables (first (state_test s ∷ gate_test (loaded_net s) g ∷ [])) (gate_tables s g)
 
 -- ## Calls that fill a lent buffer
@@ -181,8 +185,8 @@ room_test needed buffer = refuse_if (ltb (length buffer) needed) BufferTooShort
 
 -- the new words or bytes from the start, the rest stays
 abbrev pub filled : Answer → List ℕ → List ℕ → Filled
-filled Done new buffer = record { answer = Done; buffer = overwritten new buffer }
-filled (Refused r) new buffer = record { answer = Refused r; buffer = buffer }
+filled (Ok _) new buffer = record { answer = Done; buffer = overwritten new buffer }
+filled (Err r) new buffer = record { answer = Err r; buffer = buffer }
 
 -- ODC first, then H, gate after gate; the first g gates
 abbrev pub set_words : Session → ℕ → List ℕ
@@ -200,13 +204,13 @@ unfoldable pub write_of : Session → List ℕ → Filled
 write_of s buffer = filled (first (state_test s ∷ room_test (length (bytes_of s)) buffer ∷ [])) (bytes_of s) buffer
 
 -- with the length
-abbrev pub write_answer : Answer → ℕ → WriteAnswer
-write_answer Done n = write.Written n
-write_answer (Refused r) n = write.Refused r
+abbrev pub write_answer : Answer → ℕ → Result ℕ Refusal
+write_answer (Ok _) n = Ok n
+write_answer (Err r) n = Err r
 
 -- all that a call leaves that fills a buffer and tells how much
 pub record Written : Type 0 where
-  pub answer : WriteAnswer
+  pub answer : Result ℕ Refusal
   pub buffer : List ℕ
 
 abbrev pub with_length : ℕ → Filled → Written
@@ -218,11 +222,11 @@ written_of s buffer = with_length (length (bytes_of s)) (write_of s buffer)
 -- ## The number of patterns in H of each gate
 
 abbrev pub counts_for : Answer → Session → Counts
-counts_for Done s = record {
+counts_for (Ok _) s = record {
   answer = Done;
   counts = per_gate s.m (λ g. compatible_count (loaded_net s) (s.n + g));
 }
-counts_for (Refused r) s = record { answer = Refused r; counts = replicate most_gates 0 }
+counts_for (Err r) s = record { answer = Err r; counts = replicate most_gates 0 }
 
 unfoldable pub counts_of : Session → Counts
 counts_of s = counts_for (state_test s) s

@@ -5,6 +5,7 @@ pub mod Compatible
 pub mod Flat
 pub mod Valid
 pub mod Refusals
+pub mod Answer
 pub mod Tests
 pub mod State
 pub mod Load

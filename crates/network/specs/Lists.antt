@@ -3,7 +3,8 @@
 use Rattle.std.specs.Prelude.{◌≡◌, ◌↔◌, true, false, List, [], ◌∷◌, ◌++◌, ℕ, ◌≤◌, length}
 use Rattle.network.specs.declared.Session.{Session}
 use Rattle.network.specs.declared.Refusal.{Refusal}
-use Rattle.network.specs.declared.Answer.TheVariants.{Done, Refused}
+use Rattle.network.specs.Answer.{Done}
+use Rattle.std.specs.Prelude.{Ok, Err}
 use Rattle.network.specs.Net.{Net, is_gate, Replacement, signals, replaced}
 use Rattle.network.specs.Flat.{loaded_net, current_net}
 use Rattle.network.specs.Refusals.{said}
@@ -36,10 +37,10 @@ pub record FirstFault (N : Net) (rs : List Replacement) (f : Refusal) : Type 0 w
   pub behind : List Replacement
   pub whole : rs ≡ before ++ fault ∷ behind
   pub sound : Sound N [] before
-  pub refused : pair_test N (signals before) fault ≡ Refused f
+  pub refused : pair_test N (signals before) fault ≡ Err f
 
 abbrev pub FaultedOf : Type 0
-FaultedOf = (N : Net) (rs : List Replacement) (f : Refusal) → (pairs_test N [] rs ≡ Refused f) ↔ FirstFault N rs f
+FaultedOf = (N : Net) (rs : List Replacement) (f : Refusal) → (pairs_test N [] rs ≡ Err f) ↔ FirstFault N rs f
 
 -- a list that is judged names all gates at the most
 abbrev pub FewOf : Type 0

@@ -7,8 +7,9 @@ use Rattle.network.specs.declared.Session.{Session}
 use Rattle.network.specs.declared.Loaded.{Loaded}
 use Rattle.network.specs.declared.Refusal.{Refusal}
 use Rattle.network.specs.declared.Refusal.TheVariants.{TrailingBytes}
-use Rattle.network.specs.declared.Answer.{Answer}
-use Rattle.network.specs.declared.Answer.TheVariants.{Done, Refused}
+use Rattle.network.specs.Answer.{Answer}
+use Rattle.network.specs.Answer.{Done}
+use Rattle.std.specs.Prelude.{Ok, Err}
 use Rattle.network.specs.Bounds.{most_gates, most_outputs, fanin_places, excluded_words}
 use Rattle.network.specs.Compatible.{open_tables}
 use Rattle.network.specs.Flat.{loaded_net}
@@ -34,12 +35,12 @@ load_done s = record { answer = Done; session = s }
 
 -- a refusal gives no state: the session is all zeros
 abbrev pub load_refused : Refusal → Loaded
-load_refused r = record { answer = Refused r; session = started 0 0 0 }
+load_refused r = record { answer = Err r; session = started 0 0 0 }
 
 -- go on where nothing is refused
 abbrev pub onward : Answer → Loaded → Loaded
-onward Done l = l
-onward (Refused r) l = load_refused r
+onward (Ok _) l = l
+onward (Err r) l = load_refused r
 
 -- bytes, the lowest first, as a number
 abbrev pub little_endian : List ℕ → ℕ

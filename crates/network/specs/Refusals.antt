@@ -3,12 +3,16 @@ use Rattle.std.specs.Prelude.{◌≡◌, List, [], ◌∷◌, ℕ, ◌≤◌, ta
 use Rattle.network.specs.declared.Refusal.{Refusal}
 use Rattle.network.specs.declared.Refusal.TheVariants.{Truncated, UnexpectedMark, OutOfBounds, FaninNotEarlier, FaninRepeated, BitPastEnd, NotASignal, TrailingBytes, BufferTooShort, InvalidState, NotAGate, TableTooWide, ClosedEntry, Harm, ListsUnequal, GateRepeated, OutsideSubset, BadName}
 use Rattle.network.specs.declared.Named.{Named}
-use Rattle.network.specs.declared.Answer.{Answer}
-use Rattle.network.specs.declared.Answer.TheVariants.{Done, Refused}
-use Rattle.network.specs.declared.TablesAnswer.{TablesAnswer}
-use Rattle.network.specs.declared.TablesAnswer.TheVariants as tables
-use Rattle.network.specs.declared.WriteAnswer.{WriteAnswer}
-use Rattle.network.specs.declared.WriteAnswer.TheVariants as write
+use Rattle.network.specs.Answer.{Answer}
+use Rattle.network.specs.Answer.{Done}
+use Rattle.std.specs.Prelude.{Ok, Err}
+use Rattle.std.specs.Prelude.{Result}
+use Rattle.network.specs.declared.Tables.{Tables}
+use Rattle.network.specs.declared.Refusal.{Refusal}
+use Rattle.std.specs.Prelude.{Ok, Err}
+use Rattle.std.specs.Prelude.{Result}
+use Rattle.network.specs.declared.Refusal.{Refusal}
+use Rattle.std.specs.Prelude.{Ok, Err}
 
 -- a refusal's number, and the values that it names
 abbrev pub told : Refusal → ℕ × List ℕ
@@ -65,15 +69,15 @@ pub record Tells (r : Refusal) (t : Named) : Type 0 where
 -- ## An answer in 01's numbers: nothing where the call is not refused, else the refusal's number and its values
 
 abbrev pub said : Answer → List ℕ
-said Done = []
-said (Refused r) = number_of r ∷ values_of r
+said (Ok _) = []
+said (Err r) = number_of r ∷ values_of r
 
 -- of the tables of a gate
-abbrev pub said_tables : TablesAnswer → List ℕ
-said_tables (tables.Given t) = []
-said_tables (tables.Refused r) = number_of r ∷ values_of r
+abbrev pub said_tables : Result Tables Refusal → List ℕ
+said_tables (Ok t) = []
+said_tables (Err r) = number_of r ∷ values_of r
 
 -- of a written file
-abbrev pub said_write : WriteAnswer → List ℕ
-said_write (write.Written n) = []
-said_write (write.Refused r) = number_of r ∷ values_of r
+abbrev pub said_write : Result ℕ Refusal → List ℕ
+said_write (Ok n) = []
+said_write (Err r) = number_of r ∷ values_of r

@@ -3,8 +3,9 @@ use Rattle.std.specs.Prelude.{◌≡◌, ◌≢◌, ◌↔◌, Bool, true, false
 use Rattle.bits.specs.Range.{places}
 use Rattle.bits.specs.Bit.{bit}
 use Rattle.network.specs.declared.Session.{Session}
-use Rattle.network.specs.declared.Answer.{Answer}
-use Rattle.network.specs.declared.Answer.TheVariants.{Done, Refused}
+use Rattle.network.specs.Answer.{Answer}
+use Rattle.network.specs.Answer.{Done}
+use Rattle.std.specs.Prelude.{Ok, Err}
 use Rattle.network.specs.Bounds.{most_gates}
 use Rattle.network.specs.Net.{Net, is_gate, gate, entries, patterns, excluded_for, output, Replacement}
 use Rattle.network.specs.DontCares.{full, harms}
@@ -34,8 +35,8 @@ answer_by N r = first (exchange_tests N (closed N r.signal) r)
 
 -- the table of signal s after an exchange with that answer, where it was t
 abbrev pub took : Answer → Replacement → ℕ → ℕ → ℕ
-took Done r s t = cond (eqb r.signal s) r.table t
-took (Refused f) r s t = t
+took (Ok _) r s t = cond (eqb r.signal s) r.table t
+took (Err f) r s t = t
 
 -- the table of signal s's last accepted exchange, t where it has none
 abbrev pub last_accepted : Net → List Replacement → ℕ → ℕ → ℕ

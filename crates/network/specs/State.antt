@@ -5,8 +5,9 @@ use Rattle.bits.specs.Bounds.{most_inputs}
 use Rattle.bits.specs.Range.{up_from}
 use Rattle.network.specs.declared.Session.{Session}
 use Rattle.network.specs.declared.Refusal.TheVariants.{InvalidState}
-use Rattle.network.specs.declared.Answer.{Answer}
-use Rattle.network.specs.declared.Answer.TheVariants.{Done, Refused}
+use Rattle.network.specs.Answer.{Answer}
+use Rattle.network.specs.Answer.{Done}
+use Rattle.std.specs.Prelude.{Ok, Err}
 use Rattle.network.specs.Bounds.{most_gates, most_outputs, most_fanins}
 use Rattle.network.specs.Flat.{fanins_at}
 use Rattle.network.specs.Tests.{first, count_test, fanins_test, width_test, excluded_test, output_test}
@@ -47,8 +48,8 @@ unfoldable pub state_fault : Session → Answer
 state_fault s = first (state_tests s)
 
 abbrev pub as_invalid : Answer → Answer
-as_invalid Done = Done
-as_invalid (Refused r) = Refused InvalidState
+as_invalid (Ok _) = Done
+as_invalid (Err r) = Err InvalidState
 
 -- 10: whichever of them it is
 unfoldable pub state_test : Session → Answer

@@ -4,20 +4,21 @@ use Rattle.std.specs.Prelude.{Bool, true, false, not, cond, ◌&&◌, ◌||◌, 
 use Rattle.bits.specs.Range.{up_from}
 use Rattle.network.specs.declared.Refusal.{Refusal}
 use Rattle.network.specs.declared.Refusal.TheVariants.{Truncated, UnexpectedMark, OutOfBounds, FaninNotEarlier, FaninRepeated, BitPastEnd, NotASignal}
-use Rattle.network.specs.declared.Answer.{Answer}
-use Rattle.network.specs.declared.Answer.TheVariants.{Done, Refused}
+use Rattle.network.specs.Answer.{Answer}
+use Rattle.network.specs.Answer.{Done}
+use Rattle.std.specs.Prelude.{Ok, Err}
 use Rattle.network.specs.Bounds.{excluded_words}
 
 -- ## A list of tests
 
 abbrev pub refuse_if : Bool → Refusal → Answer
-refuse_if true r = Refused r
+refuse_if true r = Err r
 refuse_if false r = Done
 
 -- go on with b where the answer is Done
 abbrev pub or_else : Answer → Answer → Answer
-or_else Done b = b
-or_else (Refused r) b = Refused r
+or_else (Ok _) b = b
+or_else (Err r) b = Err r
 
 -- the first refusal, in the list's order; Done where there is none
 abbrev pub first : List Answer → Answer
@@ -26,8 +27,8 @@ first (a ∷ rest) = or_else a (first rest)
 
 -- nothing is refused
 abbrev pub is_done : Answer → Bool
-is_done Done = true
-is_done (Refused r) = false
+is_done (Ok _) = true
+is_done (Err r) = false
 
 -- ## 1 and 2
 
@@ -41,7 +42,7 @@ mark rest = get_or rest 0 0 * 256 + get_or rest 1 0
 
 -- 1 where under two bytes are left, else 2 where another mark is due
 unfoldable pub mark_test : ℕ → List ℕ → Answer
-mark_test due rest = cond (ltb (length rest) 2) (Refused Truncated) (refuse_if (not (eqb (mark rest) due)) UnexpectedMark)
+mark_test due rest = cond (ltb (length rest) 2) (Err Truncated) (refuse_if (not (eqb (mark rest) due)) UnexpectedMark)
 
 -- ## 3 to 7
 

@@ -98,23 +98,17 @@ pub enum Refusal {
 #[derive(Clone, Copy)]
 pub struct Named(pub u64, pub usize, pub [u64; 2]);
 
-#[derive(Clone, Copy)]
-pub enum Answer {
-    Done,
-    Refused(Refusal),
-}
-
 // A load: where it is refused, the session is all zeros.
 #[derive(Clone, Copy)]
 pub struct Loaded {
-    pub answer: Answer,
+    pub answer: Result<(), Refusal>,
     pub session: Session,
 }
 
 // An exchange: where it is refused, the session is the one that was given.
 #[derive(Clone, Copy)]
 pub struct Exchanged {
-    pub answer: Answer,
+    pub answer: Result<(), Refusal>,
     pub session: Session,
 }
 
@@ -134,22 +128,10 @@ pub struct Tables {
     pub open_table: u64,
 }
 
-#[derive(Clone, Copy)]
-pub enum TablesAnswer {
-    Given(Tables),
-    Refused(Refusal),
-}
-
-#[derive(Clone, Copy)]
-pub enum WriteAnswer {
-    Written(usize),
-    Refused(Refusal),
-}
-
 // The number of patterns in the compatible set of each gate, 0 past the last gate and in a refusal.
 #[derive(Clone, Copy)]
 pub struct Counts {
-    pub answer: Answer,
+    pub answer: Result<(), Refusal>,
     pub counts: [u16; MOST_GATES],
 }
 
@@ -177,7 +159,7 @@ pub fn refused(r: Refusal) -> Loaded
 {
     let t = started(0, 0, 0);
     Loaded {
-        answer: Answer::Refused(r),
+        answer: Err(r),
         session: t,
     }
 }
