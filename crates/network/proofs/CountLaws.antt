@@ -16,7 +16,7 @@ use Rattle.network.specs.Net.{Net, patterns}
 use Rattle.network.specs.Compatible.{compatible, compatible_count, compatible_total}
 use Rattle.network.specs.Flat.{loaded_net, net_of}
 use Rattle.network.specs.State.{state_test}
-use Rattle.network.specs.Calls.{counts_for, counts_of}
+use Rattle.network.specs.Calls.{pattern_counts}
 use Rattle.network.proofs.FlatGates.{per-gate-at}
 use Rattle.network.proofs.Valid.{state-e, net-ok}
 
@@ -42,11 +42,9 @@ module _ (N : Net) where
     total-few g l = le_trans (total-patterns g) (mul-le-mul l few-patterns)
 
 -- the count of gate g
-pub counts-at : (s : Session) → state_test s ≡ Done → (g : ℕ) → g < s.m → get_or (counts_of s).counts g 0 ≡ compatible_count (loaded_net s) (s.n + g)
-unfolding counts_of
+pub counts-at : (s : Session) → state_test s ≡ Done → (g : ℕ) → g < s.m → get_or (pattern_counts s) g 0 ≡ compatible_count (loaded_net s) (s.n + g)
 counts-at s v g l =
-    ap (λ (a : Answer). get_or (counts_for a s).counts g 0) v
-    ∙ per-gate-at s.m (λ g. compatible_count (loaded_net s) (s.n + g)) g (omega (arith, (net-ok s (state-e s v)).most)) l
+    per-gate-at s.m (λ g. compatible_count (loaded_net s) (s.n + g)) g (omega (arith, (net-ok s (state-e s v)).most)) l
 
 -- sixteen bits hold each of them
 pub counts-fit : (s : Session) → state_test s ≡ Done → ((g : ℕ) → compatible_count (loaded_net s) g ≤ 1024) × (compatible_total (loaded_net s) s.m ≤ 40960)

@@ -17,11 +17,10 @@ use Rattle.bits.proofs.Ranges.{and_i, by_cases, length-places, places-ext, bit-t
 use Rattle.bits.proofs.Logic.{not-not}
 use Rattle.bits.proofs.Search.{Smallest, smallest-is, smallest-eq, smallest-ext}
 use Rattle.network.specs.declared.Session.{Session}
-use Rattle.network.specs.declared.Exchanged.{Exchanged}
+use Rattle.network.specs.declared.Refusal.{Refusal}
 use Rattle.network.specs.declared.Refusal.TheVariants.{NotAGate, TableTooWide, ClosedEntry, BitPastEnd}
-use Rattle.network.specs.Answer.{Answer}
-use Rattle.network.specs.Answer.{Done}
-use Rattle.std.specs.Prelude.{Ok, Err}
+use Rattle.std.specs.Prelude.{Result, Ok, Err}
+use Rattle.network.specs.Answer.{Answer, Done, answer_of, giving, given_or}
 use Rattle.network.specs.Bounds.{most_gates}
 use Rattle.network.specs.Net.{Net, arity, is_gate, gate, entries, Replacement}
 use Rattle.network.specs.Compatible.{closed, open_table, open_tables}
@@ -30,7 +29,7 @@ use Rattle.network.specs.Tests.{refuse_if, or_else, first, width_test}
 use Rattle.network.specs.State.{arity_of, state_fault}
 use Rattle.network.specs.Valid.{Sized, Shaped, Narrow}
 use Rattle.network.specs.Calls.{gate_test, fits, table_test, alters, entry_found, closed_test, with_current, exchange_tests, held_closed, exchange_answer, exchanged, exchange_of}
-use Rattle.network.specs.Sessions.{after, answers, answer_by, took, last_accepted, final_tables}
+use Rattle.network.specs.Sessions.{next, after, answers, answer_by, took, last_accepted, final_tables}
 use Rattle.network.proofs.Slots.{sized-current}
 use Rattle.network.proofs.Fresh.{Fresh}
 use Rattle.network.proofs.FlatGates.{per-gate-at, arity-at, length-gates}
@@ -226,10 +225,15 @@ set_at n k t ts a h g = go (ℕ_discrete g (k - n))
     go (yes e) = rw (eq-eqb k (n + g) (omega arith), e) (get_or-set_same ts (k - n) t 0 h)
     go (no d) = rw (ne_eqb k (n + g) (λ e. d (omega arith))) (get_or-set_other ts (k - n) g t 0 d)
 
+answer-given : (a : Answer) (t : Session) → answer_of (giving a t) ≡ a
+answer-given (Ok _) t = refl
+answer-given (Err r) t = refl
+
 -- an exchange with the answer a in the session that s and the tables ts make
 record Turn (s : Session) (ts : List ℕ) (r : Replacement) (a : Answer) : Type 0 where
   next : List ℕ
-  gives : exchanged a (with_current s ts) r ≡ record { answer = a; session = with_current s next }
+  gives : exchanged a (with_current s ts) r ≡ giving a (with_current s next)
+  stays : given_or (with_current s ts) (exchanged a (with_current s ts) r) ≡ with_current s next
   fine : ValidTables s next
   tables : (g : ℕ) → get_or next g 0 ≡ took a r (s.n + g) (get_or ts g 0)
 
@@ -240,10 +244,11 @@ turn s fresh ts r (Ok _) w fine =
     record {
       next = set ts (r.signal - s.n) r.table;
       gives = refl;
+      stays = refl;
       fine = stored-valid s fresh ts r c.0 c.1 fine;
       tables = set_at s.n r.signal r.table ts b.0 (omega (arith, gates-most s fresh));
     }
-turn s fresh ts r (Err f) w fine = record { next = ts; gives = refl; fine = fine; tables = λ g. refl }
+turn s fresh ts r (Err f) w fine = record { next = ts; gives = refl; stays = refl; fine = fine; tables = λ g. refl }
 
 -- ## A list of exchanges
 
@@ -266,14 +271,16 @@ module _ (s : Session) (fresh : Fresh s) where
   comes [] ts fine = record { session = ap (with_current s) (sym (subst (λ (c : ℕ). places c (λ g. get_or ts g 0) ≡ ts) fine.sized (places-get ts))); answered = refl; valid = fine.valid }
   comes (r ∷ rs) ts fine =
       let t = turn s fresh ts r (answer_by (loaded_net s) r) (answer-because (loaded_net s) r) fine in
-      let e = exchange-is ts r fine ∙ t.gives in
+      let i = exchange-is ts r fine in
+      let q : next (with_current s ts) r ≡ with_current s t.next = ap (λ (e : Result Session Refusal). given_or (with_current s ts) e) i ∙ t.stays in
+      let w : answer_of (exchange_of (with_current s ts) r) ≡ answer_by (loaded_net s) r = ap answer_of (i ∙ t.gives) ∙ answer-given (answer_by (loaded_net s) r) _ in
       let rest = comes rs t.next t.fine in
       record {
         session =
-            ap (λ (e : Exchanged). after e.session rs) e ∙ rest.session
+            ap (λ (e : Session). after e rs) q ∙ rest.session
             ∙ ap (with_current s) (places-ext most_gates _ _ (λ g _. ap (last_accepted (loaded_net s) rs (s.n + g)) (t.tables g)));
-        answered = ap₂ (λ (a : Answer) (l : List Answer). a ∷ l) (ap (λ (e : Exchanged). e.answer) e) (ap (λ (e : Exchanged). answers e.session rs) e ∙ rest.answered);
-        valid = ap (λ (e : Exchanged). state_fault (after e.session rs)) e ∙ rest.valid;
+        answered = ap₂ (λ (a : Answer) (l : List Answer). a ∷ l) w (ap (λ (e : Session). answers e rs) q ∙ rest.answered);
+        valid = ap (λ (e : Session). state_fault (after e rs)) q ∙ rest.valid;
       }
 
   fresh-is : s ≡ with_current s s.loaded

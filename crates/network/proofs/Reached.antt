@@ -14,11 +14,10 @@ use Rattle.bits.specs.Bounds.{most_inputs}
 use Rattle.bits.specs.Lists.{Bytes}
 use Rattle.bits.proofs.Ranges.{lt-cases, length-places, by_cases}
 use Rattle.network.specs.declared.Session.{Session}
-use Rattle.network.specs.declared.Loaded.{Loaded}
+use Rattle.network.specs.declared.Refusal.{Refusal}
 use Rattle.network.specs.declared.Refusal.TheVariants.{TrailingBytes}
-use Rattle.network.specs.Answer.{Answer}
-use Rattle.network.specs.Answer.{Done}
-use Rattle.std.specs.Prelude.{Ok, Err}
+use Rattle.std.specs.Prelude.{Result, Ok, Err}
+use Rattle.network.specs.Answer.{Answer, Done, answer_of}
 use Rattle.network.specs.Bounds.{most_gates, most_outputs, most_fanins, excluded_words}
 use Rattle.network.specs.Compatible.{open_table, open_tables}
 use Rattle.network.specs.Flat.{loaded_net, current_net}
@@ -26,9 +25,9 @@ use Rattle.network.specs.Tests.{refuse_if, mark, count_test, range_test, fanins_
 use Rattle.network.specs.State.{arity_of, fanins_of, gate_fault, output_fault, state_fault}
 use Rattle.network.specs.Valid.{Sized, Shaped, Narrow}
 use Rattle.network.specs.Load as load
-use Rattle.network.specs.Load.{started, load_done, little_endian, with_output, output_tests, output_record, read_outputs, fanins_in, table_in, after_fanins, with_gate, form_of, gate_record, read_gates, set_bytes, words_from, excluded_in, with_excluded, is_excluded, excluded_tests, excluded_record, read_body, header_tests, header_record, read_of, opened, load_of}
+use Rattle.network.specs.Load.{started, little_endian, with_output, output_tests, output_record, read_outputs, fanins_in, table_in, after_fanins, with_gate, form_of, gate_record, read_gates, set_bytes, words_from, excluded_in, with_excluded, is_excluded, excluded_tests, excluded_record, read_body, header_tests, header_record, read_of, opened, opening, load_of}
 use Rattle.network.proofs.Fresh.{Fresh}
-use Rattle.network.proofs.TestLaws.{clear-e, each-i, short-e, count-e, count-i, range-e, width-i, output-e, went}
+use Rattle.network.proofs.TestLaws.{clear-e, each-i, short-e, count-e, count-i, range-e, width-i, output-e, went, refused-done, given-same}
 use Rattle.network.proofs.Valid.{GateValid, valid-i}
 use Rattle.network.proofs.Slots.{sized-started, sized-gate, sized-output, GateIs, gate-new, gate-kept, fanin-bytes, narrow-started, narrow-gate, narrow-output}
 
@@ -124,11 +123,11 @@ module _ (bytes : List ℕ) where
 
   module _ (u : Session) where
     outputs-sound : (c j : ℕ) (t : Session) (rest : List ℕ) → j + c ≡ t.p → Sound bytes t t.m j
-        → read_outputs c j t rest ≡ load_done u → Sound bytes u u.m u.p
+        → read_outputs c j t rest ≡ Ok u → Sound bytes u u.m u.p
     unfolding read_outputs output_record
     outputs-sound zero j t rest e s h =
-        let w = went (refuse_if (leb 1 (length rest)) TrailingBytes) (load_done t) u h in
-        let same : t ≡ u = ap (λ (x : Loaded). x.session) w.1 in
+        let w = went (refuse_if (leb 1 (length rest)) TrailingBytes) (Ok t) u h in
+        let same : t ≡ u = given-same w.1 in
         let q : j ≡ t.p = omega arith in
         rw (← same) (rw q at s)
     outputs-sound (suc c) j t rest e s h =
@@ -139,7 +138,7 @@ module _ (bytes : List ℕ) where
         outputs-sound c (j + 1) (with_output t j x) (drop 3 rest) (omega arith) (output-step t t.m j x (omega arith) fine s) w.1
 
     gates-sound : (c g : ℕ) (t : Session) (rest : List ℕ) → g + c ≡ t.m → Sound bytes t g 0
-        → read_gates c g t rest ≡ load_done u → Sound bytes u u.m u.p
+        → read_gates c g t rest ≡ Ok u → Sound bytes u u.m u.p
     unfolding read_gates gate_record
     gates-sound zero g t rest e s h = let q : g ≡ t.m = omega arith in outputs-sound t.p 0 t rest (omega arith) (rw q at s) h
     gates-sound (suc c) g t rest e s h =
@@ -156,7 +155,7 @@ module _ (bytes : List ℕ) where
 
     words-sound : (n m p : ℕ) (ws rest : List ℕ) → count_test most_inputs n ≡ Done → count_test most_gates m ≡ Done → count_test most_outputs p ≡ Done
         → excluded_test n ws ≡ Done → length ws ≡ excluded_words → (Bytes bytes → Wide ws)
-        → read_gates m 0 (with_excluded (started n m p) ws) rest ≡ load_done u → Sound bytes u u.m u.p
+        → read_gates m 0 (with_excluded (started n m p) ws) rest ≡ Ok u → Sound bytes u u.m u.p
     words-sound n m p ws rest a b d x len wide h =
         let nb = count-e most_inputs n a in
         let mb = count-e most_gates m b in
@@ -226,7 +225,7 @@ words-wide (suc c) bs b (suc w) = words-wide c (drop 8 bs) (byte-drop 8 bs b) w
 
 -- ## The whole file
 
-read-sound : (bytes : List ℕ) (u : Session) → read_of bytes ≡ load_done u → Sound bytes u u.m u.p
+read-sound : (bytes : List ℕ) (u : Session) → read_of bytes ≡ Ok u → Sound bytes u u.m u.p
 unfolding read_of header_record read_body excluded_record
 read-sound bytes u h =
     let n = get_or bytes 2 0 in
@@ -251,18 +250,16 @@ sound-valid bytes u s =
 
 -- ## Load, with the open tables
 
-pub done-whole : (l : Loaded) → l.answer ≡ Done → l ≡ load_done l.session
-done-whole l e = ap (λ (a : Answer). record { answer = a; session = l.session }) e
-
 -- a load that is Done read a network and opened it
-pub load_read : (bytes : List ℕ) (s : Session) → load_of bytes ≡ load_done s → (t : Session) × (read_of bytes ≡ load_done t) × (opened t ≡ s)
+pub load_read : (bytes : List ℕ) (s : Session) → load_of bytes ≡ Ok s → (t : Session) × (read_of bytes ≡ Ok t) × (opened t ≡ s)
 unfolding load_of
-load_read bytes s h =
-    let r = read_of bytes in
-    let w = went r.answer (load_done (opened r.session)) s h in
-    (r.session, done-whole r w.0, ap (λ (x : Loaded). x.session) w.1)
+load_read bytes s h = go (read_of bytes) h
+  where
+    go : (l : Result Session Refusal) → opening l ≡ Ok s → (t : Session) × (l ≡ Ok t) × (opened t ≡ s)
+    go (Ok t) h = (t, refl, given-same h)
+    go (Err r) h = refused-done r (ap answer_of h)
 
-pub load-back : (bytes : List ℕ) (t : Session) → read_of bytes ≡ load_done t → load_of bytes ≡ load_done (opened t)
+pub load-back : (bytes : List ℕ) (t : Session) → read_of bytes ≡ Ok t → load_of bytes ≡ Ok (opened t)
 unfolding load_of
 load-back bytes t h = rw h
 
@@ -283,7 +280,7 @@ pub opened-length : (t : Session) → length (opened t).open_tables ≡ most_gat
 unfolding open_tables
 opened-length t = length-places most_gates (λ g. cond (ltb g (length (loaded_net t).gates)) (open_table (loaded_net t) ((loaded_net t).inputs + g)) 0)
 
-pub loaded-fresh : (bytes : List ℕ) (s : Session) → load_of bytes ≡ load_done s → Fresh s
+pub loaded-fresh : (bytes : List ℕ) (s : Session) → load_of bytes ≡ Ok s → Fresh s
 loaded-fresh bytes s h =
     let l = load_read bytes s h in
     let t = l.0 in
@@ -297,7 +294,7 @@ loaded-fresh bytes s h =
       tables = d.sized.loads;
     })
 
-pub loaded-sized : (bytes : List ℕ) (s : Session) → load_of bytes ≡ load_done s → Sized s
+pub loaded-sized : (bytes : List ℕ) (s : Session) → load_of bytes ≡ Ok s → Sized s
 loaded-sized bytes s h =
     let l = load_read bytes s h in
     let t = l.0 in
@@ -312,14 +309,14 @@ loaded-sized bytes s h =
       outs = z.outs;
     })
 
-pub loaded-shaped : (bytes : List ℕ) (s : Session) → Bytes bytes → load_of bytes ≡ load_done s → Shaped s
+pub loaded-shaped : (bytes : List ℕ) (s : Session) → Bytes bytes → load_of bytes ≡ Ok s → Shaped s
 loaded-shaped bytes s b h =
     let l = load_read bytes s h in
     let w : Wide (opened l.0).excluded = (read-sound bytes l.0 l.1).wide b in
     record { sized = loaded-sized bytes s h; wide = rw l.2 at w }
 
 -- what a loaded session holds in bytes fits there, also where the numbers of the file are no bytes
-pub loaded-narrow : (bytes : List ℕ) (s : Session) → load_of bytes ≡ load_done s → Narrow s
+pub loaded-narrow : (bytes : List ℕ) (s : Session) → load_of bytes ≡ Ok s → Narrow s
 loaded-narrow bytes s h =
     let l = load_read bytes s h in
     let t = l.0 in

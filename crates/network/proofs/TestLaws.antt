@@ -12,14 +12,11 @@ use borrow.Author.Tests.{le-ltb, lt-ltb, le-leb, eq-eqb, leb-true, ltb-true, ltb
 use Rattle.bits.specs.Range.{up_from}
 use Rattle.bits.proofs.Ranges.{and_l, and_r}
 use Rattle.network.specs.declared.Session.{Session}
-use Rattle.network.specs.declared.Loaded.{Loaded}
 use Rattle.network.specs.declared.Refusal.{Refusal}
 use Rattle.network.specs.declared.Refusal.TheVariants.{Truncated, OutOfBounds, FaninNotEarlier, BitPastEnd, NotASignal}
-use Rattle.network.specs.Answer.{Answer}
-use Rattle.network.specs.Answer.{Done}
-use Rattle.std.specs.Prelude.{Ok, Err}
+use Rattle.std.specs.Prelude.{Result, Ok, Err}
+use Rattle.network.specs.Answer.{Answer, Done, answer_of, given_or, onward}
 use Rattle.network.specs.Tests.{refuse_if, or_else, first, length_test, mark, mark_test, count_test, range_test, fanin_test, fanins_test, width_test, output_test}
-use Rattle.network.specs.Load.{load_done, onward}
 
 -- ## Answers
 
@@ -144,11 +141,15 @@ fanins-e limit fs h r l =
 
 -- ## A load that is not refused went on
 
-pub went : (a : Answer) (l : Loaded) (u : Session) → onward a l ≡ load_done u → (a ≡ Done) × (l ≡ load_done u)
+pub went : (a : Answer) (l : Result Session Refusal) (u : Session) → onward a l ≡ Ok u → (a ≡ Done) × (l ≡ Ok u)
 went (Ok _) l u h = (refl, h)
-went (Err r) l u h = refused-done r (ap (λ (x : Loaded). x.answer) h)
+went (Err r) l u h = refused-done r (ap answer_of h)
 
 -- two loads that go on alike
-pub onward-ext : (a : Answer) (l l' : Loaded) → (a ≡ Done → l ≡ l') → onward a l ≡ onward a l'
+pub onward-ext : (a : Answer) (l l' : Result Session Refusal) → (a ≡ Done → l ≡ l') → onward a l ≡ onward a l'
 onward-ext (Ok _) l l' f = f refl
 onward-ext (Err r) l l' f = refl
+
+-- what a load gives
+pub given-same : {t u : Session} → ◌≡◌ {A = Result Session Refusal} (Ok t) (Ok u) → t ≡ u
+given-same {t} h = ap (λ (x : Result Session Refusal). given_or t x) h

@@ -8,7 +8,6 @@ use Rattle.bits.specs.Range.{smallest}
 use Rattle.bits.specs.Bit.{bit, differs}
 use Rattle.bits.specs.Lists.{overwritten}
 use Rattle.network.specs.declared.Session.{Session}
-use Rattle.network.specs.declared.Exchanged.{Exchanged}
 use Rattle.network.specs.declared.Sdc.{Sdc}
 use Rattle.network.specs.declared.Tables.{Tables}
 use Rattle.std.specs.Prelude.{Result}
@@ -18,11 +17,9 @@ use Rattle.std.specs.Prelude.{Ok, Err}
 use Rattle.std.specs.Prelude.{Result}
 use Rattle.network.specs.declared.Refusal.{Refusal}
 use Rattle.std.specs.Prelude.{Ok, Err}
-use Rattle.network.specs.declared.Counts.{Counts}
 use Rattle.network.specs.declared.Refusal.TheVariants.{BufferTooShort, NotAGate, TableTooWide, ClosedEntry, Harm, ListsUnequal, GateRepeated}
-use Rattle.network.specs.Answer.{Answer}
-use Rattle.network.specs.Answer.{Done}
 use Rattle.std.specs.Prelude.{Ok, Err}
+use Rattle.network.specs.Answer.{Answer, Done, giving}
 use Rattle.network.specs.Bounds.{most_gates}
 use Rattle.network.specs.Net.{Net, is_gate, gate, entries, pattern_order, Replacement, signals, new_tables, replaced}
 use Rattle.network.specs.DontCares.{sdc, cdc, odc, full, harms}
@@ -103,12 +100,11 @@ held_closed s g t = not (bit (get_or s.open_tables (g - s.n) 0) t)
 unfoldable pub exchange_answer : Session → Replacement → Answer
 exchange_answer s r = first (state_test s ∷ exchange_tests (loaded_net s) (held_closed s r.signal) r)
 
--- a refused exchange hands on the session that it got
-abbrev pub exchanged : Answer → Session → Replacement → Exchanged
-exchanged (Ok _) s r = record { answer = Done; session = stored s r }
-exchanged (Err f) s r = record { answer = Err f; session = s }
+-- a refused exchange gives no session: the caller's stays
+abbrev pub exchanged : Answer → Session → Replacement → Result Session Refusal
+exchanged a s r = giving a (stored s r)
 
-unfoldable pub exchange_of : Session → Replacement → Exchanged
+unfoldable pub exchange_of : Session → Replacement → Result Session Refusal
 exchange_of s r = exchanged (exchange_answer s r) s r
 
 -- ## Verdict: of the current network with a list of gates replaced, against the loaded outputs; it changes nothing
@@ -165,12 +161,8 @@ gate_tables s g = record {
   open_table = get_or s.open_tables (g - s.n) 0;
 }
 
-abbrev pub given_tables : Answer → Tables → Result Tables Refusal
-given_tables (Ok _) t = Ok t
-given_tables (Err r) t = Err r
-
 unfoldable pub tables_of : Session → ℕ → Result Tables Refusal
-tables_of s g = given_tables (first (state_test s ∷ gate_test (loaded_net s) g ∷ [])) (gate_tables s g)
+tables_of s g = giving (first (state_test s ∷ gate_test (loaded_net s) g ∷ [])) (gate_tables s g)
 
 -- ## Calls that fill a lent buffer
 
@@ -203,30 +195,22 @@ pattern_sets_of s buffer =
 unfoldable pub write_of : Session → List ℕ → Filled
 write_of s buffer = filled (first (state_test s ∷ room_test (length (bytes_of s)) buffer ∷ [])) (bytes_of s) buffer
 
--- with the length
-abbrev pub write_answer : Answer → ℕ → Result ℕ Refusal
-write_answer (Ok _) n = Ok n
-write_answer (Err r) n = Err r
-
 -- all that a call leaves that fills a buffer and tells how much
 pub record Written : Type 0 where
   pub answer : Result ℕ Refusal
   pub buffer : List ℕ
 
+-- with the length
 abbrev pub with_length : ℕ → Filled → Written
-with_length size f = record { answer = write_answer f.answer size; buffer = f.buffer }
+with_length size f = record { answer = giving f.answer size; buffer = f.buffer }
 
 unfoldable pub written_of : Session → List ℕ → Written
 written_of s buffer = with_length (length (bytes_of s)) (write_of s buffer)
 
 -- ## The number of patterns in H of each gate
 
-abbrev pub counts_for : Answer → Session → Counts
-counts_for (Ok _) s = record {
-  answer = Done;
-  counts = per_gate s.m (λ g. compatible_count (loaded_net s) (s.n + g));
-}
-counts_for (Err r) s = record { answer = Err r; counts = replicate most_gates 0 }
+abbrev pub pattern_counts : Session → List ℕ
+pattern_counts s = per_gate s.m (λ g. compatible_count (loaded_net s) (s.n + g))
 
-unfoldable pub counts_of : Session → Counts
-counts_of s = counts_for (state_test s) s
+unfoldable pub counts_of : Session → Result (List ℕ) Refusal
+counts_of s = giving (state_test s) (pattern_counts s)

@@ -4,12 +4,10 @@ use Rattle.std.specs.Prelude.{Bool, cond, ◌&&◌, List, [], ◌∷◌, ℕ, ze
 use Rattle.std.proofs.lemmas.List.Edits.{sets}
 use Rattle.bits.specs.Bounds.{most_inputs, gate_places}
 use Rattle.network.specs.declared.Session.{Session}
-use Rattle.network.specs.declared.Loaded.{Loaded}
 use Rattle.network.specs.declared.Refusal.{Refusal}
 use Rattle.network.specs.declared.Refusal.TheVariants.{TrailingBytes}
-use Rattle.network.specs.Answer.{Answer}
-use Rattle.network.specs.Answer.{Done}
-use Rattle.std.specs.Prelude.{Ok, Err}
+use Rattle.std.specs.Prelude.{Result, Ok, Err}
+use Rattle.network.specs.Answer.{Answer, onward}
 use Rattle.network.specs.Bounds.{most_gates, most_outputs, fanin_places, excluded_words}
 use Rattle.network.specs.Compatible.{open_tables}
 use Rattle.network.specs.Flat.{loaded_net}
@@ -29,18 +27,6 @@ started n m p = record {
   open_tables = replicate most_gates 0;
   outputs = replicate most_outputs 0;
 }
-
-abbrev pub load_done : Session → Loaded
-load_done s = record { answer = Done; session = s }
-
--- a refusal gives no state: the session is all zeros
-abbrev pub load_refused : Refusal → Loaded
-load_refused r = record { answer = Err r; session = started 0 0 0 }
-
--- go on where nothing is refused
-abbrev pub onward : Answer → Loaded → Loaded
-onward (Ok _) l = l
-onward (Err r) l = load_refused r
 
 -- bytes, the lowest first, as a number
 abbrev pub little_endian : List ℕ → ℕ
@@ -70,8 +56,8 @@ with_output t i x = record {
 }
 
 -- c outputs are due, the first of them number i; then nothing (8)
-unfoldable pub read_outputs : ℕ → ℕ → Session → List ℕ → Loaded
-read_outputs zero i t rest = onward (refuse_if (leb 1 (length rest)) TrailingBytes) (load_done t)
+unfoldable pub read_outputs : ℕ → ℕ → Session → List ℕ → Result Session Refusal
+read_outputs zero i t rest = onward (refuse_if (leb 1 (length rest)) TrailingBytes) (Ok t)
 read_outputs (suc c) i t rest =
     onward (output_record (t.n + t.m) rest)
     (read_outputs c (i + 1) (with_output t i (get_or rest 2 0)) (drop 3 rest))
@@ -134,7 +120,7 @@ with_gate t g k fs table = record {
 }
 
 -- c gates are due, the first of them number g; then the outputs
-unfoldable pub read_gates : ℕ → ℕ → Session → List ℕ → Loaded
+unfoldable pub read_gates : ℕ → ℕ → Session → List ℕ → Result Session Refusal
 read_gates zero g t rest = read_outputs t.p 0 t rest
 read_gates (suc c) g t rest =
     onward (gate_record (t.n + g) rest)
@@ -177,7 +163,7 @@ unfoldable pub excluded_record : ℕ → List ℕ → Answer
 excluded_record n rest = first (excluded_tests n rest)
 
 -- the excluded set where its record stands, then the gates
-unfoldable pub read_body : Session → List ℕ → Loaded
+unfoldable pub read_body : Session → List ℕ → Result Session Refusal
 read_body t rest =
     cond (is_excluded rest)
     (onward (excluded_record t.n rest) (read_gates t.m 0 (with_excluded t (excluded_in t.n rest)) (drop (set_bytes t.n) (drop 2 rest))))
@@ -198,7 +184,7 @@ unfoldable pub header_record : List ℕ → Answer
 header_record rest = first (header_tests rest)
 
 -- the network of the file, with no open tables yet
-unfoldable pub read_of : List ℕ → Loaded
+unfoldable pub read_of : List ℕ → Result Session Refusal
 read_of bytes = onward (header_record bytes) (read_body (started (get_or bytes 2 0) (get_or bytes 3 0) (get_or bytes 4 0)) (drop 5 bytes))
 
 -- ## Load: the network, and the open tables of its gates, which stay for the session
@@ -220,5 +206,9 @@ with_open_tables t ts = record {
 abbrev pub opened : Session → Session
 opened t = with_open_tables t (open_tables (loaded_net t))
 
-unfoldable pub load_of : List ℕ → Loaded
-load_of bytes = onward (read_of bytes).answer (load_done (opened (read_of bytes).session))
+abbrev pub opening : Result Session Refusal → Result Session Refusal
+opening (Ok s) = Ok (opened s)
+opening (Err r) = Err r
+
+unfoldable pub load_of : List ℕ → Result Session Refusal
+load_of bytes = opening (read_of bytes)

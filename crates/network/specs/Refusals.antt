@@ -1,18 +1,8 @@
 -- 01's number and named values for each refusal, 'Who can cause a refusal', and answers in these numbers. Assumes nothing.
-use Rattle.std.specs.Prelude.{◌≡◌, List, [], ◌∷◌, ℕ, ◌≤◌, take}
+use Rattle.std.specs.Prelude.{◌≡◌, List, [], ◌∷◌, ℕ, ◌≤◌, take, Result, Ok, Err}
 use Rattle.network.specs.declared.Refusal.{Refusal}
 use Rattle.network.specs.declared.Refusal.TheVariants.{Truncated, UnexpectedMark, OutOfBounds, FaninNotEarlier, FaninRepeated, BitPastEnd, NotASignal, TrailingBytes, BufferTooShort, InvalidState, NotAGate, TableTooWide, ClosedEntry, Harm, ListsUnequal, GateRepeated, OutsideSubset, BadName}
 use Rattle.network.specs.declared.Named.{Named}
-use Rattle.network.specs.Answer.{Answer}
-use Rattle.network.specs.Answer.{Done}
-use Rattle.std.specs.Prelude.{Ok, Err}
-use Rattle.std.specs.Prelude.{Result}
-use Rattle.network.specs.declared.Tables.{Tables}
-use Rattle.network.specs.declared.Refusal.{Refusal}
-use Rattle.std.specs.Prelude.{Ok, Err}
-use Rattle.std.specs.Prelude.{Result}
-use Rattle.network.specs.declared.Refusal.{Refusal}
-use Rattle.std.specs.Prelude.{Ok, Err}
 
 -- a refusal's number, and the values that it names
 abbrev pub told : Refusal → ℕ × List ℕ
@@ -68,16 +58,6 @@ pub record Tells (r : Refusal) (t : Named) : Type 0 where
 
 -- ## An answer in 01's numbers: nothing where the call is not refused, else the refusal's number and its values
 
-abbrev pub said : Answer → List ℕ
-said (Ok _) = []
+abbrev pub said : {T : Type 0} → Result T Refusal → List ℕ
+said (Ok x) = []
 said (Err r) = number_of r ∷ values_of r
-
--- of the tables of a gate
-abbrev pub said_tables : Result Tables Refusal → List ℕ
-said_tables (Ok t) = []
-said_tables (Err r) = number_of r ∷ values_of r
-
--- of a written file
-abbrev pub said_write : Result ℕ Refusal → List ℕ
-said_write (Ok n) = []
-said_write (Err r) = number_of r ∷ values_of r

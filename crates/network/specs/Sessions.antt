@@ -3,8 +3,7 @@ use Rattle.std.specs.Prelude.{◌≡◌, ◌≢◌, ◌↔◌, Bool, true, false
 use Rattle.bits.specs.Range.{places}
 use Rattle.bits.specs.Bit.{bit}
 use Rattle.network.specs.declared.Session.{Session}
-use Rattle.network.specs.Answer.{Answer}
-use Rattle.network.specs.Answer.{Done}
+use Rattle.network.specs.Answer.{Answer, answer_of, given_or}
 use Rattle.std.specs.Prelude.{Ok, Err}
 use Rattle.network.specs.Bounds.{most_gates}
 use Rattle.network.specs.Net.{Net, is_gate, gate, entries, patterns, excluded_for, output, Replacement}
@@ -13,18 +12,21 @@ use Rattle.network.specs.Compatible.{closed, open_table}
 use Rattle.network.specs.Flat.{loaded_net, current_net}
 use Rattle.network.specs.Refusals.{said}
 use Rattle.network.specs.Tests.{first, member}
-use Rattle.network.specs.Load.{load_of, load_done}
+use Rattle.network.specs.Load.{load_of}
 use Rattle.network.specs.Calls.{fits, alters, exchange_tests, exchange_of, with_current, verdict_of, verdict_on}
 
--- ## A list of exchanges: each gets the session that the one before it returned
+-- ## A list of exchanges: each gets the session that the one before it returned; one that is refused returns none, and the session stays
+
+abbrev pub next : Session → Replacement → Session
+next s r = given_or s (exchange_of s r)
 
 abbrev pub after : Session → List Replacement → Session
 after s [] = s
-after s (r ∷ rs) = after (exchange_of s r).session rs
+after s (r ∷ rs) = after (next s r) rs
 
 abbrev pub answers : Session → List Replacement → List Answer
 answers s [] = []
-answers s (r ∷ rs) = (exchange_of s r).answer ∷ answers (exchange_of s r).session rs
+answers s (r ∷ rs) = answer_of (exchange_of s r) ∷ answers (next s r) rs
 
 -- ## What they come to, said of the loaded network alone
 
@@ -87,7 +89,7 @@ pub record Demand3 (s : Session) (rs : List Replacement) : Type 0 where
 
 -- of every list of bytes that loads
 abbrev pub Demand3Of : Type 0
-Demand3Of = (bytes : List ℕ) (s : Session) (rs : List Replacement) → load_of bytes ≡ load_done s → Demand3 s rs
+Demand3Of = (bytes : List ℕ) (s : Session) (rs : List Replacement) → load_of bytes ≡ Ok s → Demand3 s rs
 
 -- ## Harm: what a verdict finds of the network M against the loaded one, L
 
@@ -112,7 +114,7 @@ LoneHarmless s r =
     → (said (verdict_on s (r ∷ [])) ≡ []) ↔ ((t : ℕ) → t < entries (loaded_net s) r.signal → alters (current_net s) r t ≡ true → bit (full (current_net s) r.signal) t ≡ true)
 
 abbrev pub Rule4Of : Type 0
-Rule4Of = (bytes : List ℕ) (s : Session) (rs : List Replacement) (r : Replacement) → load_of bytes ≡ load_done s → LoneHarmless (after s rs) r
+Rule4Of = (bytes : List ℕ) (s : Session) (rs : List Replacement) (r : Replacement) → load_of bytes ≡ Ok s → LoneHarmless (after s rs) r
 
 -- ## Open lies inside full, in every session that a load and exchanges give: s is the session of a load, rs are the exchanges
 
@@ -126,7 +128,7 @@ pub record Inside (s : Session) (rs : List Replacement) : Type 0 where
 
 -- of every list of bytes that loads
 abbrev pub InsideOf : Type 0
-InsideOf = (bytes : List ℕ) (s : Session) (rs : List Replacement) → load_of bytes ≡ load_done s → Inside s rs
+InsideOf = (bytes : List ℕ) (s : Session) (rs : List Replacement) → load_of bytes ≡ Ok s → Inside s rs
 
 -- ## Several gates on one verdict, in every session that a load and exchanges give: s is the session of a load, es are the exchanges
 
@@ -152,4 +154,4 @@ pub record Together (s : Session) (es : List Replacement) : Type 0 where
 
 -- of every list of bytes that loads
 abbrev pub TogetherOf : Type 0
-TogetherOf = (bytes : List ℕ) (s : Session) (es : List Replacement) → load_of bytes ≡ load_done s → Together s es
+TogetherOf = (bytes : List ℕ) (s : Session) (es : List Replacement) → load_of bytes ≡ Ok s → Together s es

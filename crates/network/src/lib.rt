@@ -4,7 +4,7 @@
 ghost use Rattle.std.specs.Prelude.{◌≡◌, ◌≤◌};
 ghost use Rattle.bits.specs.Bounds.{most_inputs};
 ghost use Rattle.network.specs.Bounds.{most_set_bytes};
-ghost use Rattle.network.specs.Load.{set_bytes, load_refused};
+ghost use Rattle.network.specs.Load.{set_bytes};
 ghost use Rattle.network.specs.Load as file;
 ghost use Rattle.network.specs.Refusals.{number_of, Tells};
 
@@ -98,20 +98,6 @@ pub enum Refusal {
 #[derive(Clone, Copy)]
 pub struct Named(pub u64, pub usize, pub [u64; 2]);
 
-// A load: where it is refused, the session is all zeros.
-#[derive(Clone, Copy)]
-pub struct Loaded {
-    pub answer: Result<(), Refusal>,
-    pub session: Session,
-}
-
-// An exchange: where it is refused, the session is the one that was given.
-#[derive(Clone, Copy)]
-pub struct Exchanged {
-    pub answer: Result<(), Refusal>,
-    pub session: Session,
-}
-
 // The SDC of one gate: its first 64 entries, and the others.
 #[derive(Clone, Copy)]
 pub struct Sdc {
@@ -126,13 +112,6 @@ pub struct Tables {
     pub cdc: u64,
     pub full: u64,
     pub open_table: u64,
-}
-
-// The number of patterns in the compatible set of each gate, 0 past the last gate and in a refusal.
-#[derive(Clone, Copy)]
-pub struct Counts {
-    pub answer: Result<(), Refusal>,
-    pub counts: [u16; MOST_GATES],
 }
 
 // The session that holds nothing but the counts.
@@ -150,17 +129,6 @@ pub fn started(n: u8, m: u8, p: u8) -> Session
         current: [0u64; MOST_GATES],
         open_tables: [0u64; MOST_GATES],
         outputs: [0u8; MOST_OUTPUTS],
-    }
-}
-
-// A refusal hands out the empty session.
-pub fn refused(r: Refusal) -> Loaded
-    ensures { result ≡ load_refused r }
-{
-    let t = started(0, 0, 0);
-    Loaded {
-        answer: Err(r),
-        session: t,
     }
 }
 
