@@ -7,7 +7,7 @@ use native.Mathlib.Omega.{arith}
 use lib.Dec.{ltb}
 use lib.Bits.{bit_and, bit_xor}
 use borrow.Author.Tests.{lt-ltb, le-ltb}
-use Rattle.bits.specs.declared.Found.TheVariants.{At, Nothing}
+use Rattle.std.specs.Prelude.{Some, None}
 use Rattle.bits.specs.Range.{smallest}
 use Rattle.bits.specs.Bit.{bit, differs}
 use Rattle.bits.proofs.BitLaws.{bit-and, bit-xor, bit-zero}
@@ -51,9 +51,9 @@ module _ (E opens loaded table others mask : ℕ) (room : E ≤ 64) (inverted : 
       go (no n) = clash (and_r (bit others t) (ltb t E) (and_r (differs (bit loaded t) (bit table t)) (bit others t && ltb t E) (sym (altered-bit t) ∙ e))) (le-ltb t E (omega arith))
 
   pub none-closed : altered ≡ 0 → Done ≡ entry_found (smallest E shut)
-  none-closed z = sym (ap entry_found (smallest-eq E shut Nothing (λ i h. sym (altered-at i h) ∙ ap (λ (x : ℕ). bit x i) z ∙ bit-zero i)))
+  none-closed z = sym (ap entry_found (smallest-eq E shut None (λ i h. sym (altered-at i h) ∙ ap (λ (x : ℕ). bit x i) z ∙ bit-zero i)))
 
   pub lowest-closed : (t : ℕ) → bit altered t ≡ true → ((i : ℕ) → i < t → bit altered i ≡ false) → Refused (ClosedEntry t) ≡ entry_found (smallest E shut)
   lowest-closed t e below =
       let h = inside t e in
-      sym (ap entry_found (smallest-eq E shut (At t) (h, sym (altered-at t h) ∙ e, λ i l. sym (altered-at i (omega arith)) ∙ below i l)))
+      sym (ap entry_found (smallest-eq E shut (Some t) (h, sym (altered-at t h) ∙ e, λ i l. sym (altered-at i (omega arith)) ∙ below i l)))

@@ -1,8 +1,8 @@
 -- Lists, tests, counts and searches over the numbers below a bound: the words in which the rules are written.
 -- Each recursion over a bound grows at the end, as a loop that counts up does. Assumes nothing.
 use Rattle.std.specs.Prelude.{Bool, true, false, cond, ◌&&◌, ◌||◌, List, [], ◌∷◌, ◌++◌, ℕ, zero, suc, ◌+◌}
-use Rattle.bits.specs.declared.Found.{Found}
-use Rattle.bits.specs.declared.Found.TheVariants.{At, Nothing}
+use Rattle.std.specs.Prelude.{Option}
+use Rattle.std.specs.Prelude.{Some, None}
 
 -- 1 where b holds, else 0
 abbrev pub num : Bool → ℕ
@@ -41,10 +41,10 @@ up_from a zero = []
 up_from a (suc c) = a ∷ up_from (a + 1) c
 
 -- the first number of the list that passes the test
-abbrev pub first_in : (ℕ → Bool) → List ℕ → Found
-first_in p [] = Nothing
-first_in p (x ∷ xs) = cond (p x) (At x) (first_in p xs)
+abbrev pub first_in : (ℕ → Bool) → List ℕ → Option ℕ
+first_in p [] = None
+first_in p (x ∷ xs) = cond (p x) (Some x) (first_in p xs)
 
 -- the smallest number below n that passes the test
-abbrev pub smallest : ℕ → (ℕ → Bool) → Found
+abbrev pub smallest : ℕ → (ℕ → Bool) → Option ℕ
 smallest n p = first_in p (up_from 0 n)

@@ -20,13 +20,6 @@ pub const SMALL_FANINS: usize = 4;
 
 pub const SMALL_WORDS: usize = 1 << SMALL_FANINS;
 
-// What a search finds.
-#[derive(Drop)]
-pub enum Found {
-    At(usize),
-    Nothing,
-}
-
 // Bit b of INPUT[i] is bit i of b.
 const INPUT: [u64; 6] = [
     0xaaaa_aaaa_aaaa_aaaa,

@@ -8,8 +8,8 @@ use Prim.Native.Nat.{ℕ, ◌≤◌}
 use lib.Dec.{eqb, ltb}
 use lib.ListN.{length}
 use borrow.Author.Tests.{eqb-true, ltb-false, not-false}
-use Rattle.bits.specs.declared.Found.{Found}
-use Rattle.bits.specs.declared.Found.TheVariants.{At, Nothing}
+use Rattle.std.specs.Prelude.{Option}
+use Rattle.std.specs.Prelude.{Some, None}
 use Rattle.bits.specs.Range.{smallest}
 use Rattle.network.specs.declared.Session.{Session}
 use Rattle.network.specs.declared.Refusal.{Refusal}
@@ -65,9 +65,9 @@ module _ (Q : Answer → Type 0) where
   unfolding closed_test
   closed-by N shut r p q = go (smallest (entries N r.signal) (λ t. shut t && alters N r t))
     where
-      go : (f : Found) → Q (entry_found f)
-      go (At t) = p t
-      go Nothing = q
+      go : (f : Option ℕ) → Q (entry_found f)
+      go (Some t) = p t
+      go None = q
 
   -- 14
   pub harm-by : (L M : Net) → ((x i : ℕ) → Q (Err (Harm x i))) → Q Done → Q (harm_test L M)

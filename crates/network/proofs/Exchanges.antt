@@ -9,8 +9,8 @@ use lib.Dec.{eqb, leb}
 use lib.ListN.{length, get_or, set, length-set}
 use lib.Seq.{get_or-set_same, get_or-set_other}
 use borrow.Author.Tests.{eq-eqb, ne_eqb, le-leb, lt-ltb}
-use Rattle.bits.specs.declared.Found.{Found}
-use Rattle.bits.specs.declared.Found.TheVariants.{At, Nothing}
+use Rattle.std.specs.Prelude.{Option}
+use Rattle.std.specs.Prelude.{Some, None}
 use Rattle.bits.specs.Range.{places, smallest}
 use Rattle.bits.specs.Bit.{bit}
 use Rattle.bits.proofs.Ranges.{and_i, by_cases, length-places, places-ext, bit-table}
@@ -41,15 +41,15 @@ use Rattle.network.proofs.Slots.{places-get}
 -- ## Answers: each has exactly its cause, where shut tells the closed entries
 
 -- an entry that is shut and altered
-abbrev Altered : Net → (ℕ → Bool) → Replacement → Found → Type 0
+abbrev Altered : Net → (ℕ → Bool) → Replacement → Option ℕ → Type 0
 Altered N shut r = Smallest (entries N r.signal) (λ t. shut t && alters N r t)
 
 -- why an answer is given
 pub data Because (N : Net) (shut : ℕ → Bool) (r : Replacement) : Answer → Type 0 where
   no-gate : is_gate N r.signal ≡ false → Because N shut r (Err NotAGate)
   too_wide : is_gate N r.signal ≡ true → fits N r ≡ false → Because N shut r (Err TableTooWide)
-  closes : (t : ℕ) → is_gate N r.signal ≡ true → fits N r ≡ true → Altered N shut r (At t) → Because N shut r (Err (ClosedEntry t))
-  accepts : is_gate N r.signal ≡ true → fits N r ≡ true → Altered N shut r Nothing → Because N shut r Done
+  closes : (t : ℕ) → is_gate N r.signal ≡ true → fits N r ≡ true → Altered N shut r (Some t) → Because N shut r (Err (ClosedEntry t))
+  accepts : is_gate N r.signal ≡ true → fits N r ≡ true → Altered N shut r None → Because N shut r Done
 
 module _ (N : Net) (shut : ℕ → Bool) (r : Replacement) where
   pub because : Because N shut r (first (exchange_tests N shut r))
@@ -58,19 +58,19 @@ module _ (N : Net) (shut : ℕ → Bool) (r : Replacement) where
       go (is_gate N r.signal) (fits N r) (smallest (entries N r.signal) (λ t. shut t && alters N r t)) refl refl
       (smallest-is (entries N r.signal) (λ t. shut t && alters N r t))
     where
-      go : (a b : Bool) (c : Found) → is_gate N r.signal ≡ a → fits N r ≡ b → Altered N shut r c
+      go : (a b : Bool) (c : Option ℕ) → is_gate N r.signal ≡ a → fits N r ≡ b → Altered N shut r c
           → Because N shut r (or_else (refuse_if (not a) NotAGate) (or_else (refuse_if (not b) TableTooWide) (or_else (entry_found c) Done)))
       go false b c p q w = no-gate p
       go true false c p q w = too_wide p q
-      go true true Nothing p q w = accepts p q w
-      go true true (At t) p q w = closes t p q w
+      go true true None p q w = accepts p q w
+      go true true (Some t) p q w = closes t p q w
 
   pub only-because : {a : Answer} → Because N shut r a → first (exchange_tests N shut r) ≡ a
   unfolding gate_test table_test closed_test
   only-because (no-gate p) = rw p
   only-because (too_wide p q) = rw (p, q)
-  only-because (closes t p q w) = rw (p, q, smallest-eq (entries N r.signal) (λ t. shut t && alters N r t) (At t) w)
-  only-because (accepts p q w) = rw (p, q, smallest-eq (entries N r.signal) (λ t. shut t && alters N r t) Nothing w)
+  only-because (closes t p q w) = rw (p, q, smallest-eq (entries N r.signal) (λ t. shut t && alters N r t) (Some t) w)
+  only-because (accepts p q w) = rw (p, q, smallest-eq (entries N r.signal) (λ t. shut t && alters N r t) None w)
 
 module _ {N : Net} {shut : ℕ → Bool} {r : Replacement} where
   pub no-gate-e : Because N shut r (Err NotAGate) → is_gate N r.signal ≡ false
@@ -79,10 +79,10 @@ module _ {N : Net} {shut : ℕ → Bool} {r : Replacement} where
   pub too-wide-e : Because N shut r (Err TableTooWide) → (is_gate N r.signal ≡ true) × (fits N r ≡ false)
   too-wide-e (too_wide p q) = (p, q)
 
-  pub closes-e : {t : ℕ} → Because N shut r (Err (ClosedEntry t)) → (is_gate N r.signal ≡ true) × (fits N r ≡ true) × Altered N shut r (At t)
+  pub closes-e : {t : ℕ} → Because N shut r (Err (ClosedEntry t)) → (is_gate N r.signal ≡ true) × (fits N r ≡ true) × Altered N shut r (Some t)
   closes-e (closes u p q w) = (p, q, w)
 
-  pub accepts-e : Because N shut r Done → (is_gate N r.signal ≡ true) × (fits N r ≡ true) × Altered N shut r Nothing
+  pub accepts-e : Because N shut r Done → (is_gate N r.signal ≡ true) × (fits N r ≡ true) × Altered N shut r None
   accepts-e (accepts p q w) = (p, q, w)
 
 -- the answer goes by the closed entries of the gate that is named, and by nothing else
@@ -91,7 +91,7 @@ answer-ext : (N : Net) (f h : ℕ → Bool) (r : Replacement) → (is_gate N r.s
 unfolding gate_test closed_test
 answer-ext N f h r same =
     by_cases (is_gate N r.signal)
-    (λ w. ap (λ (c : Found). first (gate_test N r.signal ∷ table_test N r ∷ entry_found c ∷ []))
+    (λ w. ap (λ (c : Option ℕ). first (gate_test N r.signal ∷ table_test N r ∷ entry_found c ∷ []))
     (smallest-ext (entries N r.signal) (λ t. f t && alters N r t) (λ t. h t && alters N r t) (λ t l. ap (λ b. b && alters N r t) (same w t l))))
     (λ w. rw w)
 

@@ -8,8 +8,8 @@ use native.Mathlib.Nat.{not-suc-le-zero}
 use native.Mathlib.Decide.{dec_lt}
 use native.Mathlib.Omega.{arith}
 use lib.ListN.{length}
-use Rattle.bits.specs.declared.Found.{Found}
-use Rattle.bits.specs.declared.Found.TheVariants.{At, Nothing}
+use Rattle.std.specs.Prelude.{Option}
+use Rattle.std.specs.Prelude.{Some, None}
 use Rattle.bits.specs.Range.{up_from, smallest}
 use Rattle.bits.proofs.Ranges.{lt-cases}
 use Rattle.bits.proofs.Logic.{clash}
@@ -41,10 +41,10 @@ module _ (L M : Net) where
       rest : Answer
       rest = harm_in L M (up_from (a + 1) c)
 
-      go : (f : Found) → Smallest (length L.outputs) (harms L M a) f → (Smallest (length L.outputs) (harms L M a) Nothing → Outcome rest)
+      go : (f : Option ℕ) → Smallest (length L.outputs) (harms L M a) f → (Smallest (length L.outputs) (harms L M a) None → Outcome rest)
           → Outcome (or_else (output_found a f) rest)
-      go (At i) s k = inr (a, i, refl, record { pattern = omega arith; output = s.0; harm = s.1; before = none; lower = s.2 })
-      go Nothing s k = k s
+      go (Some i) s k = inr (a, i, refl, record { pattern = omega arith; output = s.0; harm = s.1; before = none; lower = s.2 })
+      go None s k = k s
 
   harm-is : Outcome (harm_test L M)
   unfolding harm_test pattern_order

@@ -2,8 +2,8 @@
 -- byte of a lent buffer. Each call's tests stand in 01's order: 10 before all else, then 9, or 15, and of each gate 11, 16 and 12, then
 -- 13 or 14. Assumes nothing.
 use Rattle.std.specs.Prelude.{Bool, not, cond, ◌&&◌, List, [], ◌∷◌, ◌++◌, ℕ, zero, suc, ◌+◌, ◌-◌, ◌^◌, ◌/◌, ◌%◌, eqb, ltb, length, get_or, set, replicate}
-use Rattle.bits.specs.declared.Found.{Found}
-use Rattle.bits.specs.declared.Found.TheVariants.{At, Nothing}
+use Rattle.std.specs.Prelude.{Option}
+use Rattle.std.specs.Prelude.{Some, None}
 use Rattle.bits.specs.Range.{smallest}
 use Rattle.bits.specs.Bit.{bit, differs}
 use Rattle.bits.specs.Lists.{overwritten}
@@ -46,17 +46,17 @@ table_test N r = refuse_if (not (fits N r)) TableTooWide
 unfoldable pub alters : Net → Replacement → ℕ → Bool
 alters N r t = differs (bit (gate N r.signal).table t) (bit r.table t)
 
-abbrev pub entry_found : Found → Answer
-entry_found (At t) = Err (ClosedEntry t)
-entry_found Nothing = Done
+abbrev pub entry_found : Option ℕ → Answer
+entry_found (Some t) = Err (ClosedEntry t)
+entry_found None = Done
 
 -- 13: alters an entry that is shut, naming the smallest; N is the loaded network
 unfoldable pub closed_test : Net → (ℕ → Bool) → Replacement → Answer
 closed_test N shut r = entry_found (smallest (entries N r.signal) (λ t. shut t && alters N r t))
 
-abbrev pub output_found : ℕ → Found → Answer
-output_found x (At i) = Err (Harm x i)
-output_found x Nothing = Done
+abbrev pub output_found : ℕ → Option ℕ → Answer
+output_found x (Some i) = Err (Harm x i)
+output_found x None = Done
 
 -- the first of the patterns xs at which some output i below p has h x i, and there the lowest such output
 abbrev pub first_harm : (ℕ → ℕ → Bool) → ℕ → List ℕ → Answer

@@ -7,8 +7,8 @@ use native.Mathlib.Nat.{add-zero, zero-add}
 use native.Mathlib.Omega.{arith}
 use lib.Dec.{ltb}
 use borrow.Author.Tests.{lt-ltb, le-ltb}
-use Rattle.bits.specs.declared.Found.{Found}
-use Rattle.bits.specs.declared.Found.TheVariants.{Nothing}
+use Rattle.std.specs.Prelude.{Option}
+use Rattle.std.specs.Prelude.{Some, None}
 use Rattle.bits.specs.Range.{up_from, first_in, smallest}
 use Rattle.bits.specs.Cut.{Cut}
 use Rattle.bits.proofs.Search.{smallest-eq, smallest-ext, found, next, done}
@@ -43,7 +43,7 @@ module _ (h : ℕ → ℕ → Bool) (p : ℕ) where
 -- ## The loop over outputs, at o of those below b; r is the answer of the later patterns
 
 module _ (q : ℕ → Bool) (x : ℕ) (r : Answer) where
-  abbrev on : Found → Answer
+  abbrev on : Option ℕ → Answer
   on f = or_else (output_found x f) r
 
   pub inner-found : (o b : ℕ) → o < b → q o ≡ true → Refused (Harm x o) ≡ or_else (output_found x (first_in q (up_from o (b - o)))) r
@@ -63,7 +63,7 @@ pub search-ext : (h k : ℕ → ℕ → Bool) (p a c : ℕ) → ((e : ℕ) → e
     → first_harm h p (up_from a c) ≡ first_harm k p (up_from a c)
 search-ext h k p a zero f = refl
 search-ext h k p a (suc c) f =
-    ap₂ (λ (s : Found) (r : Answer). or_else (output_found a s) r)
+    ap₂ (λ (s : Option ℕ) (r : Answer). or_else (output_found a s) r)
     (smallest-ext p (h a) (k a) (λ i l. rw (add-zero a) at (f 0 (omega arith) i l)))
     (search-ext h k p (a + 1) c (λ e l i m. let q : a + 1 + e ≡ a + suc e = omega arith in rw q (f (suc e) (omega arith) i m)))
 
@@ -72,7 +72,7 @@ search-none h p a c f = search-ext h (λ x i. false) p a c f ∙ go a c
   where
     go : (a c : ℕ) → first_harm (λ x i. false) p (up_from a c) ≡ Done
     go a zero = refl
-    go a (suc c) = rw (smallest-eq p (λ i. false) Nothing (λ i l. refl)) (go (a + 1) c)
+    go a (suc c) = rw (smallest-eq p (λ i. false) None (λ i l. refl)) (go (a + 1) c)
 
 -- first the one part, then the other
 pub search-parts : (h : ℕ → ℕ → Bool) (p a c d : ℕ) → first_harm h p (up_from a (c + d)) ≡ or_else (first_harm h p (up_from a c)) (first_harm h p (up_from (a + c) d))
