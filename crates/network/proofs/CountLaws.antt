@@ -1,5 +1,5 @@
 -- The counts of the compatible sets: where each stands, and how large they are, of every network and within 01's bounds. Assumes nothing.
-use mathlib.Core.Path.{◌≡◌, ap, ◌∙◌}
+use mathlib.Core.Path.{◌≡◌}
 use Prim.Native.Nat.{ℕ, zero, suc, ◌+◌, ◌*◌, ◌≤◌, ◌<◌}
 use native.Mathlib.Nat.{le_trans, add-le-add, mul-le-mul, suc-mul}
 use native.Mathlib.Omega.{arith}
@@ -8,9 +8,7 @@ use lib.ListN.{get_or}
 use Rattle.bits.specs.Bounds.{most_inputs}
 use Rattle.bits.proofs.Cuts.{count-le}
 use Rattle.network.specs.declared.Session.{Session}
-use Rattle.network.specs.Answer.{Answer}
 use Rattle.network.specs.Answer.{Done}
-use Rattle.std.specs.Prelude.{Ok, Err}
 use Rattle.network.specs.Bounds.{most_gates}
 use Rattle.network.specs.Net.{Net, patterns}
 use Rattle.network.specs.Compatible.{compatible, compatible_count, compatible_total}

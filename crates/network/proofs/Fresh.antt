@@ -4,7 +4,6 @@ use mathlib.Core.Path.{◌≡◌}
 use lib.ListN.{length}
 use Rattle.network.specs.declared.Session.{Session}
 use Rattle.network.specs.Answer.{Done}
-use Rattle.std.specs.Prelude.{Ok, Err}
 use Rattle.network.specs.Bounds.{most_gates, fanin_places}
 use Rattle.network.specs.Compatible.{open_tables}
 use Rattle.network.specs.Flat.{loaded_net}

@@ -17,7 +17,7 @@ use Rattle.bits.proofs.Search.{Smallest, smallest-is}
 use Rattle.network.specs.declared.Refusal.TheVariants.{Harm}
 use Rattle.network.specs.Answer.{Answer}
 use Rattle.network.specs.Answer.{Done}
-use Rattle.std.specs.Prelude.{Ok, Err}
+use Rattle.std.specs.Prelude.{Err}
 use Rattle.network.specs.Net.{Net, patterns, pattern_order}
 use Rattle.network.specs.DontCares.{harms}
 use Rattle.network.specs.Refusals.{said}

@@ -15,7 +15,6 @@ use Rattle.bits.proofs.Ranges.{by_cases, bit-table, table-lt}
 use Rattle.bits.proofs.Logic.{clash, and-not, differs-i}
 use Rattle.network.specs.declared.Session.{Session}
 use Rattle.network.specs.Answer.{Done}
-use Rattle.std.specs.Prelude.{Ok, Err}
 use Rattle.network.specs.Net.{Gate, Net, is_gate, gate, entries, Replacement, with_table}
 use Rattle.network.specs.DontCares.{full}
 use Rattle.network.specs.Compatible.{closed, open_table}

@@ -16,7 +16,6 @@ use Rattle.bits.proofs.Ranges.{by_cases, every-e, every-i, length-places, bit-ta
 use Rattle.bits.proofs.Logic.{imp-e, imp-i, beq-comm, differs-e}
 use Rattle.network.specs.declared.Session.{Session}
 use Rattle.network.specs.Answer.{Done}
-use Rattle.std.specs.Prelude.{Ok, Err}
 use Rattle.network.specs.Net.{Gate, Net, arity, is_gate, no_gate, gate, entries, patterns, excluded, excluded_for, entry, run, values, output, entry_of, Replacement, with_table, replace_one, replaced}
 use Rattle.network.specs.DontCares.{run_inverted, values_inverted, output_kept, odc, full, harms}
 use Rattle.network.specs.Flat.{gates_of, net_of, loaded_net, current_net}

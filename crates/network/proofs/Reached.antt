@@ -1,6 +1,6 @@
 -- What a load gives passes refusal 10's test: what has been read so far passes it, record after record. Assumes nothing.
 use mathlib.Core.Path.{◌≡◌, refl, sym, ap, ◌∙◌}
-use mathlib.Core.Bool.{Bool, cond, ◌&&◌}
+use mathlib.Core.Bool.{cond, ◌&&◌}
 use mathlib.Core.List.{List, [], ◌∷◌}
 use Prim.Native.Nat.{ℕ, zero, suc, ◌+◌, ◌*◌, ◌-◌, ◌^◌, ◌≤◌, ◌<◌}
 use native.Mathlib.Omega.{arith}
@@ -17,7 +17,7 @@ use Rattle.network.specs.declared.Session.{Session}
 use Rattle.network.specs.declared.Refusal.{Refusal}
 use Rattle.network.specs.declared.Refusal.TheVariants.{TrailingBytes}
 use Rattle.std.specs.Prelude.{Result, Ok, Err}
-use Rattle.network.specs.Answer.{Answer, Done, answer_of}
+use Rattle.network.specs.Answer.{Done, answer_of}
 use Rattle.network.specs.Bounds.{most_gates, most_outputs, most_fanins, excluded_words}
 use Rattle.network.specs.Compatible.{open_table, open_tables}
 use Rattle.network.specs.Flat.{loaded_net, current_net}

@@ -14,7 +14,6 @@ use Rattle.bits.specs.Range.{places}
 use Rattle.bits.proofs.Ranges.{length-places, places-at, places-ext}
 use Rattle.network.specs.declared.Session.{Session}
 use Rattle.network.specs.Answer.{Done}
-use Rattle.std.specs.Prelude.{Ok, Err}
 use Rattle.network.specs.Bounds.{most_gates, most_outputs, fanin_places, excluded_words}
 use Rattle.network.specs.Tests.{fanins_test}
 use Rattle.network.specs.State.{arity_of, fanins_of}

@@ -15,6 +15,8 @@ use Rattle.network.specs.declared.Session.{Session}
 use Rattle.network.specs.declared.Refusal.{Refusal}
 use Rattle.network.specs.declared.Refusal.TheVariants.{Truncated, OutOfBounds, FaninNotEarlier, BitPastEnd, NotASignal}
 use Rattle.std.specs.Prelude.{Result, Ok, Err}
+use Rattle.std.specs.Result.{IsErrAnd}
+use Rattle.std.proofs.lemmas.Result.{err_from_is_err_and}
 use Rattle.network.specs.Answer.{Answer, Done, answer_of, given_or, onward}
 use Rattle.network.specs.Tests.{refuse_if, or_else, first, length_test, mark, mark_test, count_test, range_test, fanin_test, fanins_test, width_test, output_test}
 
@@ -153,3 +155,8 @@ onward-ext (Err r) l l' f = refl
 -- what a load gives
 pub given-same : {t u : Session} → ◌≡◌ {A = Result Session Refusal} (Ok t) (Ok u) → t ≡ u
 given-same {t} h = ap (λ (x : Result Session Refusal). given_or t x) h
+
+-- ## What a `?` hands on
+
+pub handed-on : {T : Type 0} {a x : Result T Refusal} {r : Refusal} → IsErrAnd a (λ y. y ≡ r) → Err r ≡ x → a ≡ x
+handed-on {a = a} h q = let p = err_from_is_err_and a h in rw (p.1, p.2) q

@@ -1,7 +1,7 @@
 -- Every call of 01 but load, as a function from all that it is given to all that it leaves: the answer, the session, each word or
 -- byte of a lent buffer. Each call's tests stand in 01's order: 10 before all else, then 9, or 15, and of each gate 11, 16 and 12, then
 -- 13 or 14. Assumes nothing.
-use Rattle.std.specs.Prelude.{Bool, not, cond, ◌&&◌, List, [], ◌∷◌, ◌++◌, ℕ, zero, suc, ◌+◌, ◌-◌, ◌^◌, ◌/◌, ◌%◌, eqb, ltb, length, get_or, set, replicate}
+use Rattle.std.specs.Prelude.{Bool, not, cond, ◌&&◌, List, [], ◌∷◌, ◌++◌, ℕ, zero, suc, ◌+◌, ◌-◌, ◌^◌, ◌/◌, ◌%◌, eqb, ltb, length, get_or, set}
 use Rattle.std.specs.Prelude.{Option}
 use Rattle.std.specs.Prelude.{Some, None}
 use Rattle.bits.specs.Range.{smallest}
@@ -20,7 +20,6 @@ use Rattle.std.specs.Prelude.{Ok, Err}
 use Rattle.network.specs.declared.Refusal.TheVariants.{BufferTooShort, NotAGate, TableTooWide, ClosedEntry, Harm, ListsUnequal, GateRepeated}
 use Rattle.std.specs.Prelude.{Ok, Err}
 use Rattle.network.specs.Answer.{Answer, Done, giving}
-use Rattle.network.specs.Bounds.{most_gates}
 use Rattle.network.specs.Net.{Net, is_gate, gate, entries, pattern_order, Replacement, signals, new_tables, replaced}
 use Rattle.network.specs.DontCares.{sdc, cdc, odc, full, harms}
 use Rattle.network.specs.Compatible.{compatible, compatible_count, per_gate}

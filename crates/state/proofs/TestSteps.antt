@@ -4,35 +4,34 @@ use mathlib.Core.Bool.{true, false, not}
 use mathlib.Core.List.{List, [], ◌∷◌, ◌++◌, map}
 use Prim.Native.Nat.{ℕ, zero, suc, ◌+◌, ◌-◌, ◌*◌, ◌^◌, ◌≤◌, ◌<◌}
 use native.Mathlib.Nat.{sub-zero, lt_of_lt_of_le, pow-le-pow_right}
-use native.Mathlib.Numerals.{add-one}
 use native.Mathlib.Omega.{arith}
 use lib.Dec.{ltb}
-use lib.ListN.{length, get_or, take, drop, drop_of_length-le, length-drop}
-use lib.Seq.{drop-cons, take-suc, take_all, get_or-drop}
-use borrow.Author.Tests.{lt-ltb, le-ltb, le-leb, lt-leb, eq-eqb, ne_eqb}
+use lib.ListN.{length, get_or, take, drop, length-drop}
+use lib.Seq.{take-suc, take_all, get_or-drop}
+use borrow.Author.Tests.{lt-ltb, le-ltb, le-leb, lt-leb}
 use Rattle.bits.specs.Bounds.{most_inputs, gate_places}
 use Rattle.bits.specs.Range.{places, up_from}
 use Rattle.bits.proofs.Ranges.{places-ext}
+use Rattle.std.specs.Prelude.{Ok, Err}
+use Rattle.network.specs.Answer.{Answer, Done}
 use Rattle.network.specs.declared.Session.{Session}
 use Rattle.network.specs.declared.Refusal.{Refusal}
-use Rattle.network.specs.declared.Refusal.TheVariants.{OutOfBounds, FaninNotEarlier, FaninRepeated, InvalidState}
-use Rattle.network.specs.declared.Answer.{Answer}
-use Rattle.network.specs.declared.Answer.TheVariants.{Done, Refused}
+use Rattle.network.specs.declared.Refusal.TheVariants.{OutOfBounds, FaninNotEarlier, FaninRepeated}
 use Rattle.network.specs.Bounds.{most_gates, most_outputs, most_fanins, fanin_places}
 use Rattle.network.specs.Tests.{refuse_if, or_else, first, count_test, range_test, member, fanin_test, fanins_test, width_test, excluded_test}
-use Rattle.network.specs.State.{arity_of, gate_fault, output_fault, state_fault, state_test}
+use Rattle.network.specs.State.{arity_of, gate_fault, output_fault, state_fault}
 use Rattle.network.proofs.TestLaws.{clear-e, count-e}
 
 -- ## One test
 
 -- a test that asks for a below b
-pub past : (r : Refusal) (a b : ℕ) → b ≤ a → Refused r ≡ refuse_if (not (ltb a b)) r
+pub past : (r : Refusal) (a b : ℕ) → b ≤ a → Err r ≡ refuse_if (not (ltb a b)) r
 past r a b h = rw (le-ltb a b h)
 
-pub range-low : (least most x : ℕ) → x < least → Refused OutOfBounds ≡ range_test least most x
+pub range-low : (least most x : ℕ) → x < least → Err OutOfBounds ≡ range_test least most x
 range-low least most x l = rw (lt-leb least x l)
 
-pub range-high : (least most x : ℕ) → least ≤ x → most < x → Refused OutOfBounds ≡ range_test least most x
+pub range-high : (least most x : ℕ) → least ≤ x → most < x → Err OutOfBounds ≡ range_test least most x
 range-high least most x l h = rw (le-leb least x l, lt-leb x most h)
 
 -- no word has a bit past its 64
@@ -41,22 +40,12 @@ wide bits x h l = lt_of_lt_of_le h (pow-le-pow_right {n = 2} (omega arith) {i = 
 
 -- ## Fan-ins
 
-module _ (fs : List ℕ) (x t : ℕ) where
-  pub member-found : t < length fs → get_or fs t 0 ≡ x → true ≡ member x (drop t fs)
-  member-found l e = rw (drop-cons fs t 0 l, eq-eqb (get_or fs t 0) x e)
-
-  pub member-next : t < length fs → (get_or fs t 0 ≡ x → ⊥) → member x (drop (t + 1) fs) ≡ member x (drop t fs)
-  member-next l e = rw (drop-cons fs t 0 l, ne_eqb (get_or fs t 0) x e, add-one)
-
-  pub member-done : length fs ≤ t → false ≡ member x (drop t fs)
-  member-done l = rw (drop_of_length-le fs {i = t} l)
-
 module _ (limit : ℕ) (fs : List ℕ) (j : ℕ) where
-  pub fanin-late : limit ≤ get_or fs j 0 → Refused FaninNotEarlier ≡ fanin_test limit fs j
+  pub fanin-late : limit ≤ get_or fs j 0 → Err FaninNotEarlier ≡ fanin_test limit fs j
   unfolding fanin_test
   fanin-late h = rw (le-ltb (get_or fs j 0) limit h)
 
-  pub fanin-twice : get_or fs j 0 < limit → member (get_or fs j 0) (take (j - 0) fs) ≡ true → Refused FaninRepeated ≡ fanin_test limit fs j
+  pub fanin-twice : get_or fs j 0 < limit → member (get_or fs j 0) (take (j - 0) fs) ≡ true → Err FaninRepeated ≡ fanin_test limit fs j
   unfolding fanin_test
   fanin-twice h m = rw (lt-ltb (get_or fs j 0) limit h, rw sub-zero at m)
 
@@ -70,8 +59,8 @@ module _ (p : ℕ → Answer) (e n : ℕ) where
   step : e < n → first (map p (up_from e (n - e))) ≡ or_else (p e) (first (map p (up_from (e + 1) (n - (e + 1)))))
   step h = let q : n - e ≡ suc (n - (e + 1)) = omega arith in rw q
 
-  pub row-refused : {a : Answer} {r : Refusal} → e < n → a ≡ p e → a ≡ Refused r → a ≡ first (map p (up_from e (n - e)))
-  row-refused h q k = k ∙ rw (step h, sym q ∙ k)
+  pub row-refused : {a : Answer} {r : Refusal} → e < n → a ≡ p e → a ≡ Err r → Err r ≡ first (map p (up_from e (n - e)))
+  row-refused h q k = rw (step h, sym q ∙ k)
 
   pub row-passed : {a : Answer} → e < n → a ≡ p e → a ≡ Done → first (map p (up_from (e + 1) (n - (e + 1)))) ≡ first (map p (up_from e (n - e)))
   row-passed h q k = rw (step h, sym q ∙ k)
@@ -81,20 +70,20 @@ module _ (p : ℕ → Answer) (e n : ℕ) where
 
 -- ## Tests one after the other
 
-pub or-refused : {a b : Answer} {r : Refusal} (x : Answer) → a ≡ b → a ≡ Refused r → a ≡ or_else b x
-or-refused x q k = k ∙ rw (sym q ∙ k)
+pub or-refused : {a b : Answer} {r : Refusal} (x : Answer) → a ≡ b → a ≡ Err r → Err r ≡ or_else b x
+or-refused x q k = rw (sym q ∙ k)
 
 pub or-passed : {a b : Answer} (x : Answer) → a ≡ b → a ≡ Done → x ≡ or_else b x
 or-passed x q k = rw (sym q ∙ k)
 
 pub or-last : {a : Answer} (b : Answer) → a ≡ b → a ≡ or_else b Done
-or-last Done q = q
-or-last (Refused r) q = q
+or-last (Ok _) q = q
+or-last (Err r) q = q
 
 joined : (tests more : List Answer) → or_else (first tests) (first more) ≡ first (tests ++ more)
 joined [] more = refl
-joined (Done ∷ tests) more = joined tests more
-joined (Refused r ∷ tests) more = refl
+joined ((Ok _) ∷ tests) more = joined tests more
+joined (Err r ∷ tests) more = refl
 
 -- ## A gate
 
@@ -151,11 +140,3 @@ module _ (s : Session) where
   few-counts q k =
       let t = clear-e counts (sym q ∙ k) in
       (few most_inputs s.n refl t.0, few most_gates s.m refl t.1.0, few most_outputs s.p refl t.1.1.0)
-
-  pub invalid : {a : Answer} {r : Refusal} → a ≡ state_fault s → a ≡ Refused r → Refused InvalidState ≡ state_test s
-  unfolding state_test
-  invalid q k = rw (sym q ∙ k)
-
-  pub valid : {a : Answer} → a ≡ state_fault s → a ≡ Done → Done ≡ state_test s
-  unfolding state_test
-  valid q k = rw (sym q ∙ k)

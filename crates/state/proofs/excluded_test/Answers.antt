@@ -1,35 +1,20 @@
 use mathlib.Core.Path.{refl, ◌∙◌}
-use mathlib.Core.List.{List}
-use Prim.Native.Nat.{ℕ, ◌-◌, ◌*◌, ◌^◌}
 use native.Mathlib.Omega.{arith}
-use lib.ListN.{get_or}
-use Rattle.network.specs.declared.Answer.{Answer}
 use Rattle.network.specs.Bounds.{excluded_words}
-use Rattle.network.specs.Tests.{width_test, excluded_test}
+use Rattle.network.specs.Tests.{excluded_test}
+use Rattle.network.proofs.TestLaws.{handed-on}
 use Rattle.state.proofs.TestSteps.{row-refused, row-passed, row-ended}
 use Rattle.state.proofs.excluded_test.Goals as goal
 
-abbrev test : ℕ → List ℕ → ℕ → Answer
-test n ws w = width_test (2 ^ n - 64 * w) (get_or ws w 0)
-
 pub loop-w-init : goal.loop-w-init
 unfolding excluded_test
-loop-w-init c = (omega arith, refl)
+loop-w-init c = refl
 
-pub returns-in-Refused : goal.returns-in-Refused
-returns-in-Refused c =
-    let a = c.args in
-    let h = c.loop-w in
-    row-refused (test a.n a.ws) h.w excluded_words (omega arith) c.word_test-a.ensures c.in-Refused.is ∙ h.invariant.1
+pub returns-in_err-word_test : goal.returns-in_err-word_test
+returns-in_err-word_test c = handed-on c.from_residual.ensures.1 (row-refused _ c.loop-w.w excluded_words (omega arith) c.word_test.ensures c.in_err-word_test.was ∙ c.loop-w.invariant)
 
 pub loop-w-preserved : goal.loop-w-preserved
-loop-w-preserved c =
-    let a = c.args in
-    let h = c.loop-w in
-    (omega arith, row-passed (test a.n a.ws) h.w excluded_words (omega arith) c.word_test-a.ensures c.in_default.is ∙ h.invariant.1)
+loop-w-preserved c = row-passed _ c.loop-w.w excluded_words (omega arith) c.word_test.ensures c.in_ok-word_test.was ∙ c.loop-w.invariant
 
 pub returns : goal.returns
-returns c =
-    let a = c.args in
-    let h = c.loop-w in
-    row-ended (test a.n a.ws) h.w excluded_words (omega arith) ∙ h.invariant.1
+returns c = row-ended _ c.loop-w.w excluded_words (omega arith) ∙ c.loop-w.invariant

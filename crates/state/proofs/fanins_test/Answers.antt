@@ -1,29 +1,20 @@
 use mathlib.Core.Path.{◌∙◌}
 use native.Mathlib.Nat.{sub-zero}
 use native.Mathlib.Omega.{arith}
-use lib.ListN.{length}
-use Rattle.network.specs.Tests.{fanin_test, fanins_test}
+use Rattle.network.specs.Tests.{fanins_test}
+use Rattle.network.proofs.TestLaws.{handed-on}
 use Rattle.state.proofs.TestSteps.{row-refused, row-passed, row-ended}
 use Rattle.state.proofs.fanins_test.Goals as goal
 
 pub loop-j-init : goal.loop-j-init
 unfolding fanins_test
-loop-j-init c = (omega arith, rw sub-zero)
+loop-j-init c = rw sub-zero
 
-pub returns-in-Refused : goal.returns-in-Refused
-returns-in-Refused c =
-    let a = c.args in
-    let h = c.loop-j in
-    row-refused (fanin_test a.limit a.fs.now) h.j (length a.fs.now) (omega arith) c.fanin_test-a.ensures c.in-Refused.is ∙ h.invariant.1
+pub returns-in_err-fanin_test : goal.returns-in_err-fanin_test
+returns-in_err-fanin_test c = handed-on c.from_residual.ensures.1 (row-refused _ c.loop-j.j _ (omega arith) c.fanin_test.ensures c.in_err-fanin_test.was ∙ c.loop-j.invariant)
 
 pub loop-j-preserved : goal.loop-j-preserved
-loop-j-preserved c =
-    let a = c.args in
-    let h = c.loop-j in
-    (omega arith, row-passed (fanin_test a.limit a.fs.now) h.j (length a.fs.now) (omega arith) c.fanin_test-a.ensures c.in_default.is ∙ h.invariant.1)
+loop-j-preserved c = row-passed _ c.loop-j.j _ (omega arith) c.fanin_test.ensures c.in_ok-fanin_test.was ∙ c.loop-j.invariant
 
 pub returns : goal.returns
-returns c =
-    let a = c.args in
-    let h = c.loop-j in
-    row-ended (fanin_test a.limit a.fs.now) h.j (length a.fs.now) (omega arith) ∙ h.invariant.1
+returns c = row-ended _ c.loop-j.j _ (omega arith) ∙ c.loop-j.invariant

@@ -1,44 +1,24 @@
 use mathlib.Core.Path.{◌∙◌}
 use native.Mathlib.Omega.{arith}
-use Rattle.network.specs.Bounds.{most_fanins}
-use Rattle.state.proofs.TestSteps.{or-refused, or-passed, or-last, few, fanins-open}
+use Rattle.network.proofs.TestLaws.{handed-on}
+use Rattle.state.proofs.TestSteps.{or-refused, or-passed, or-last, fanins-open}
 use Rattle.state.proofs.gate_test.Goals as goal
 
-pub returns-in-Refused : goal.returns-in-Refused
-returns-in-Refused c = or-refused _ c.count_test-a.ensures c.in-Refused.is
+pub returns-in_err-fanins_test : goal.returns-in_err-fanins_test
+returns-in_err-fanins_test c = let a = c.args in
+    handed-on c.from_residual-in_err-fanins_test.ensures.1 (or-refused _ (fanins-open a.limit a.k a.fs.now (omega arith) c.count_test.ensures c.in_ok-count_test.was c.fanins_test.ensures) c.in_err-fanins_test.was
+    ∙ or-passed _ c.count_test.ensures c.in_ok-count_test.was)
 
-pub slice_bounds-fanins_test-end : goal.slice_bounds-fanins_test-end
-slice_bounds-fanins_test-end c =
-    let a = c.args in
-    omega (arith, few most_fanins a.k c.count_test-a.ensures c.in_default.is)
-
-pub returns-in-Refused-b : goal.returns-in-Refused-b
-returns-in-Refused-b c =
-    let a = c.args in
-    or-refused _ (fanins-open a.limit a.k a.fs.now (omega arith) c.count_test-a.ensures c.in_default.is c.fanins_test-b.ensures) c.in-Refused-b.is
-    ∙ or-passed _ c.count_test-a.ensures c.in_default.is
-
-pub table_test-l-requires : goal.table_test-l-requires
-table_test-l-requires c =
-    let a = c.args in
-    omega (arith, few most_fanins a.k c.count_test-a.ensures c.in_default.is)
-
-pub returns-in-Refused-l : goal.returns-in-Refused-l
-returns-in-Refused-l c =
-    let a = c.args in
-    or-refused _ c.table_test-l.ensures c.in-Refused-l.is
-    ∙ or-passed _ (fanins-open a.limit a.k a.fs.now (omega arith) c.count_test-a.ensures c.in_default.is c.fanins_test-b.ensures) c.in_default-b.is
-    ∙ or-passed _ c.count_test-a.ensures c.in_default.is
-
-pub table_test-requires : goal.table_test-requires
-table_test-requires c =
-    let a = c.args in
-    omega (arith, few most_fanins a.k c.count_test-a.ensures c.in_default.is)
+pub returns-in_err-table_test : goal.returns-in_err-table_test
+returns-in_err-table_test c = let a = c.args in
+    handed-on c.from_residual-in_err-table_test.ensures.1 (or-refused _ c.table_test.ensures c.in_err-table_test.was
+    ∙ or-passed _ (fanins-open a.limit a.k a.fs.now (omega arith) c.count_test.ensures c.in_ok-count_test.was c.fanins_test.ensures) c.in_ok-fanins_test.was
+    ∙ or-passed _ c.count_test.ensures c.in_ok-count_test.was)
 
 pub returns : goal.returns
 returns c =
     let a = c.args in
-    or-last _ c.table_test.ensures
-    ∙ or-passed _ c.table_test-l.ensures c.in_default-l.is
-    ∙ or-passed _ (fanins-open a.limit a.k a.fs.now (omega arith) c.count_test-a.ensures c.in_default.is c.fanins_test-b.ensures) c.in_default-b.is
-    ∙ or-passed _ c.count_test-a.ensures c.in_default.is
+    or-last _ c.table_test-2.ensures
+    ∙ or-passed _ c.table_test.ensures c.in_ok-table_test.was
+    ∙ or-passed _ (fanins-open a.limit a.k a.fs.now (omega arith) c.count_test.ensures c.in_ok-count_test.was c.fanins_test.ensures) c.in_ok-fanins_test.was
+    ∙ or-passed _ c.count_test.ensures c.in_ok-count_test.was

@@ -1,8 +1,11 @@
-use Rattle.state.proofs.TestSteps.{invalid, valid}
+use mathlib.Core.Path.{ap}
+use Rattle.network.specs.State.{as_invalid, state_test}
 use Rattle.state.proofs.state_test.Goals as goal
 
-pub returns-in-Refused : goal.returns-in-Refused
-returns-in-Refused c = invalid c.args.s c.state_fault-a.ensures c.in-Refused.is
+pub returns-in-Ok : goal.returns-in-Ok
+unfolding state_test
+returns-in-Ok c = ap as_invalid c.in-Ok.ensures
 
-pub returns : goal.returns
-returns c = valid c.args.s c.state_fault-a.ensures c.in_default.is
+pub returns-in-Err : goal.returns-in-Err
+unfolding state_test
+returns-in-Err c = ap as_invalid c.in-Err.ensures
