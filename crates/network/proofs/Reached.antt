@@ -25,7 +25,7 @@ use Rattle.network.specs.Tests.{refuse_if, mark, count_test, range_test, fanins_
 use Rattle.network.specs.State.{arity_of, fanins_of, gate_fault, output_fault, state_fault}
 use Rattle.network.specs.Valid.{Sized, Shaped, Narrow}
 use Rattle.network.specs.Load as load
-use Rattle.network.specs.Load.{started, little_endian, with_output, output_tests, output_record, read_outputs, fanins_in, table_in, after_fanins, with_gate, form_of, gate_record, read_gates, set_bytes, words_from, excluded_in, with_excluded, is_excluded, excluded_tests, excluded_record, read_body, header_tests, header_record, read_of, opened, opening, load_of}
+use Rattle.network.specs.Load.{started, session_of, little_endian, with_output, output_tests, output_record, read_outputs, fanins_in, table_in, after_fanins, with_gate, form_of, gate_record, read_gates, set_bytes, words_from, excluded_in, with_excluded, is_excluded, excluded_tests, excluded_record, read_body, header_tests, header_record, read_of, opened, opening, load_of}
 use Rattle.network.proofs.Fresh.{Fresh}
 use Rattle.network.proofs.TestLaws.{clear-e, each-i, short-e, count-e, count-i, range-e, width-i, output-e, went, refused-done, given-same}
 use Rattle.network.proofs.Valid.{GateValid, valid-i}
@@ -249,6 +249,10 @@ sound-valid bytes u s =
     valid-i u (record { inputs = s.inputs; gates = s.gates; outs = s.outs; set-fine = s.set-fine; gate = s.gate; output = s.output })
 
 -- ## Load, with the open tables
+
+pub done-whole : (l : Result Session Refusal) → answer_of l ≡ Done → l ≡ Ok (session_of l)
+done-whole (Ok s) e = refl
+done-whole (Err r) e = refused-done r e
 
 -- a load that is Done read a network and opened it
 pub load_read : (bytes : List ℕ) (s : Session) → load_of bytes ≡ Ok s → (t : Session) × (read_of bytes ≡ Ok t) × (opened t ≡ s)

@@ -4,17 +4,15 @@
 use Rattle.std.specs.Prelude.{Bool, List, [], ◌∷◌, ◌++◌, map, ℕ, take, drop, set, replicate}
 use Rattle.bits.specs.Bounds.{most_inputs, row_words}
 use Rattle.bits.specs.Bit.{table_of}
-use Rattle.std.specs.Prelude.{Result}
 use Rattle.network.specs.declared.Session.{Session}
-use Rattle.network.specs.declared.Refusal.{Refusal}
-use Rattle.network.specs.Answer.{giving, given_or}
+use Rattle.network.specs.Answer.{giving}
 use Rattle.network.specs.Bounds.{most_gates, most_outputs, most_fanins, most_entries, most_signals, fanin_places, signal_words, gate_words, excluded_words, most_set_bytes, most_gate_bytes, most_file_bytes}
 use Rattle.network.specs.Net.{Net, gate, patterns, Replacement, replaced}
 use Rattle.network.specs.DontCares.{sdc, cdc, odc, full}
 use Rattle.network.specs.Compatible.{free_fanins, compatible, compatible_count, compatible_total, open_table}
 use Rattle.network.specs.Flat.{loaded_net, current_net}
 use Rattle.network.specs.Refusals.{said}
-use Rattle.network.specs.Load.{started, read_of, load_of}
+use Rattle.network.specs.Load.{session_of, read_of, load_of}
 use Rattle.network.specs.Write.{bytes_of}
 use Rattle.network.specs.Calls.{exchange_of, verdict_on, harm_test, tables_of, write_of}
 use Rattle.network.specs.Sessions.{after}
@@ -28,10 +26,6 @@ numbers s = s.n ∷ s.m ∷ s.p ∷ s.excluded ++ s.arity ++ s.fanins ++ s.loade
 
 abbrev pub to : ℕ → ℕ → Replacement
 to s t = record { signal = s; table = t }
-
--- the session of a load; all zeros where it is refused
-abbrev pub given_by : Result Session Refusal → Session
-given_by l = given_or (started 0 0 0) l
 
 -- a set of patterns as a number
 abbrev pub set_of : Net → (ℕ → Bool) → ℕ
@@ -52,7 +46,7 @@ lone_said N r = said (harm_test N (replaced N (r ∷ [])))
 abbrev pub marked : List (List ℕ × List ℕ)
 marked =
     -- the twin network's bytes, loaded and written
-    (said (load_of twin_bytes) ++ numbers (given_by (load_of twin_bytes)), numbers twin_session)
+    (said (load_of twin_bytes) ++ numbers (session_of (load_of twin_bytes)), numbers twin_session)
     ∷ (bytes_of twin_session, twin_bytes)
     -- ODC of gates 1 and 2 is {1}; of gate 3 empty
     ∷ (set_of twin_net (odc twin_net 1) ∷ set_of twin_net (odc twin_net 2) ∷ set_of twin_net (odc twin_net 3) ∷ [], 0b10 ∷ 0b10 ∷ 0 ∷ [])
@@ -156,7 +150,7 @@ never_given =
 abbrev pub two_words : List (List ℕ × List ℕ)
 two_words =
     -- loaded and written
-    (numbers (given_by (load_of two_words_bytes)), numbers two_words_session)
+    (numbers (session_of (load_of two_words_bytes)), numbers two_words_session)
     ∷ (bytes_of two_words_session, two_words_bytes)
     -- entry 3 comes at excluded patterns only; entry 2 comes at 64, which is excluded, and at 65
     ∷ (cdc two_words_net 7 ∷ full two_words_net 7 ∷ open_table two_words_net 7 ∷ [], 0x8 ∷ 0x8 ∷ 0x8 ∷ [])
@@ -170,7 +164,7 @@ two_words =
 abbrev pub multi_output : List (List ℕ × List ℕ)
 multi_output =
     -- loaded and written
-    (numbers (given_by (load_of multi_output_bytes)), numbers multi_output_session)
+    (numbers (session_of (load_of multi_output_bytes)), numbers multi_output_session)
     ∷ (bytes_of multi_output_session, multi_output_bytes)
     -- with neither output nor gate behind it, the ODC and H of gate 5 are all patterns
     ∷ (of_gate multi_output_net 2, 0x06 ∷ 0x0 ∷ 0x2 ∷ 0x2 ∷ 0b1010 ∷ 0b1110 ∷ [])
@@ -205,12 +199,12 @@ abbrev pub refused : List (List ℕ × List ℕ)
 refused =
     -- 11, 12, and 10 for the session of a refused load
     (exchange_said twin_session [] (to 0 0) ++ exchange_said twin_session [] (to 4 0) ++ exchange_said twin_session [] (to 1 4) ++ verdict_said twin_session [] (to 3 16), 11 ∷ 11 ∷ 12 ∷ 12 ∷ [])
-    ∷ (exchange_said (given_by (load_of [])) [] (to 0 0), 10 ∷ [])
+    ∷ (exchange_said (session_of (load_of [])) [] (to 0 0), 10 ∷ [])
     -- 11, 10 and nothing for the tables of a gate; 9 and nothing for a file's bytes
-    ∷ (said (tables_of twin_session 0) ++ said (tables_of (given_by (load_of [])) 1) ++ said (tables_of twin_session 1), 11 ∷ 10 ∷ [])
+    ∷ (said (tables_of twin_session 0) ++ said (tables_of (session_of (load_of [])) 1) ++ said (tables_of twin_session 1), 11 ∷ 10 ∷ [])
     ∷ (said {T = ℕ} (giving (write_of twin_session (replicate 26 0)).answer 27) ++ said {T = ℕ} (giving (write_of twin_session (replicate 27 0)).answer 27), 9 ∷ [])
     -- the compatible sets stay those of the loaded network: gate 1 to 2 alters a closed entry, also after an exchange at gate 2
-    ∷ (numbers (given_by (load_of chain_bytes)), numbers chain_session)
+    ∷ (numbers (session_of (load_of chain_bytes)), numbers chain_session)
     ∷ (exchange_said chain_session [] (to 1 2), 13 ∷ 1 ∷ [])
     ∷ (exchange_said chain_session (to 2 3 ∷ []) (to 1 2), 13 ∷ 1 ∷ [])
     ∷ []

@@ -6,11 +6,11 @@ use Rattle.network.specs.declared.Session.{Session}
 use Rattle.network.specs.Bounds.{most_gates}
 use Rattle.network.specs.Net.{Net, Replacement, replaced}
 use Rattle.network.specs.Refusals.{said}
-use Rattle.network.specs.Load.{load_of}
+use Rattle.network.specs.Load.{session_of, load_of}
 use Rattle.network.specs.Calls.{with_current, pairs, harm_test, verdict_of}
 use Rattle.network.specs.Sessions.{after}
 use Rattle.network.specs.Examples.{twin_session, two_copies, three_copies}
-use Rattle.network.specs.Cases.{to, given_by}
+use Rattle.network.specs.Cases.{to}
 
 -- a verdict on two lists after some exchanges, and the harm of a list on a loaded network, in 01's numbers
 abbrev pub list_said : Session → List Replacement → (gates tables : List ℕ) → List ℕ
@@ -47,7 +47,7 @@ lists =
     ∷ (list_said by_hand [] [] [], 14 ∷ 1 ∷ 0 ∷ [])
     ∷ (list_said by_hand [] (1 ∷ []) (2 ∷ []), [])
     -- 10 before 15
-    ∷ (list_said (given_by (load_of [])) [] (1 ∷ []) [], 10 ∷ [])
+    ∷ (list_said (session_of (load_of [])) [] (1 ∷ []) [], 10 ∷ [])
     -- one gate after the other would tell neither: each harmful, both harmless
     ∷ (harm_said two_copies (1 ∷ []) (1 ∷ []), 14 ∷ 0 ∷ 0 ∷ [])
     ∷ (harm_said two_copies (2 ∷ []) (1 ∷ []), 14 ∷ 0 ∷ 0 ∷ [])

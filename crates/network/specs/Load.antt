@@ -7,7 +7,7 @@ use Rattle.network.specs.declared.Session.{Session}
 use Rattle.network.specs.declared.Refusal.{Refusal}
 use Rattle.network.specs.declared.Refusal.TheVariants.{TrailingBytes}
 use Rattle.std.specs.Prelude.{Result, Ok, Err}
-use Rattle.network.specs.Answer.{Answer, onward}
+use Rattle.network.specs.Answer.{Answer, onward, given_or}
 use Rattle.network.specs.Bounds.{most_gates, most_outputs, fanin_places, excluded_words}
 use Rattle.network.specs.Compatible.{open_tables}
 use Rattle.network.specs.Flat.{loaded_net}
@@ -27,6 +27,10 @@ started n m p = record {
   open_tables = replicate most_gates 0;
   outputs = replicate most_outputs 0;
 }
+
+-- the session that a load gives; all zeros where it is refused
+abbrev pub session_of : Result Session Refusal → Session
+session_of l = given_or (started 0 0 0) l
 
 -- bytes, the lowest first, as a number
 abbrev pub little_endian : List ℕ → ℕ
