@@ -8,15 +8,14 @@ use lib.Dec.{leb, ltb, eqb}
 use lib.ListN.{length, get_or, take, drop}
 use Rattle.bits.specs.Bounds.{most_inputs}
 use Rattle.bits.specs.Range.{up_from}
+use Rattle.std.specs.Prelude.{Result, Ok, Err}
+use Rattle.network.specs.Answer.{Answer, Done, onward}
 use Rattle.network.specs.declared.Session.{Session}
-use Rattle.network.specs.declared.Loaded.{Loaded}
 use Rattle.network.specs.declared.Refusal.{Refusal}
 use Rattle.network.specs.declared.Refusal.TheVariants.{Truncated, UnexpectedMark, OutOfBounds, FaninNotEarlier, FaninRepeated, BitPastEnd, NotASignal, TrailingBytes}
-use Rattle.network.specs.declared.Answer.{Answer}
-use Rattle.network.specs.declared.Answer.TheVariants.{Done, Refused}
 use Rattle.network.specs.Bounds.{most_gates, most_outputs, excluded_words}
 use Rattle.network.specs.Tests.{refuse_if, first, length_test, mark, mark_test, range_test, member, fanin_test, fanins_test, width_test, excluded_test, output_test}
-use Rattle.network.specs.Load.{started, onward, output_tests, output_record, with_output, read_outputs, fanins_in, after_fanins, form_of, table_in, gate_tests, gate_record, with_gate, read_gates, set_bytes, excluded_in, with_excluded, is_excluded, excluded_tests, excluded_record, read_body, header_tests, header_record, read_of}
+use Rattle.network.specs.Load.{started, output_tests, output_record, with_output, read_outputs, fanins_in, after_fanins, form_of, table_in, gate_tests, gate_record, with_gate, read_gates, set_bytes, excluded_in, with_excluded, is_excluded, excluded_tests, excluded_record, read_body, header_tests, header_record, read_of}
 use Rattle.network.proofs.ByTest.{if-by, or-by, Each, first_by}
 use Rattle.demands.specs.Demands.{Numbered, Ends}
 
@@ -24,13 +23,13 @@ use Rattle.demands.specs.Demands.{Numbered, Ends}
 
 -- Done, or a refusal by one of these numbers
 abbrev pub Among : List ℕ → Answer → Type 0
-Among ns Done = Unit {0}
-Among ns (Refused r) = Numbered ns r
+Among ns (Ok _) = Unit {0}
+Among ns (Err r) = Numbered ns r
 
 -- a call that goes by such an answer
-pub ends : {A : Type 0} (ns : List ℕ) (left : Answer → A) (a : Answer) → Among ns a → Ends (left a) (left Done) ns (λ r. left (Refused r))
-ends ns left Done p = inl refl
-ends ns left (Refused r) p = inr (r, p, refl)
+pub ends : {A : Type 0} (ns : List ℕ) (left : Answer → A) (a : Answer) → Among ns a → Ends (left a) (left Done) ns (λ r. left (Err r))
+ends ns left (Ok _) p = inl refl
+ends ns left (Err r) p = inr (r, p, refl)
 
 module _ (ns : List ℕ) where
   if-among : (b : Bool) (r : Refusal) → Numbered ns r → Among ns (refuse_if b r)
@@ -40,7 +39,7 @@ module _ (ns : List ℕ) where
   first-among = first_by (Among ns) tt
 
   -- a call that goes by a list of tests
-  pub tests-end : {A : Type 0} (left : Answer → A) (tests : List Answer) → Each (Among ns) tests → Ends (left (first tests)) (left Done) ns (λ r. left (Refused r))
+  pub tests-end : {A : Type 0} (left : Answer → A) (tests : List Answer) → Each (Among ns) tests → Ends (left (first tests)) (left Done) ns (λ r. left (Err r))
   tests-end left tests p = ends ns left (first tests) (first-among tests p)
 
   -- one test for each number
@@ -60,7 +59,7 @@ mark-among : (due : ℕ) (rest : List ℕ) → Among file (mark_test due rest)
 unfolding mark_test
 mark-among due rest = go (ltb (length rest) 2)
   where
-    go : (b : Bool) → Among file (cond b (Refused Truncated) (refuse_if (not (eqb (mark rest) due)) UnexpectedMark))
+    go : (b : Bool) → Among file (cond b (Err Truncated) (refuse_if (not (eqb (mark rest) due)) UnexpectedMark))
     go true = refl
     go false = if-among file (not (eqb (mark rest) due)) UnexpectedMark refl
 
@@ -90,9 +89,9 @@ output-among signals x = if-among file (not (ltb x signals)) NotASignal refl
 
 -- ## Record after record
 
-onward-among : (a : Answer) (l : Loaded) → Among file a → Among file l.answer → Among file (onward a l).answer
-onward-among Done l p q = q
-onward-among (Refused r) l p q = p
+onward-among : (a : Answer) (l : Result Session Refusal) → Among file a → Among file l.answer → Among file (onward a l).answer
+onward-among (Ok _) l p q = q
+onward-among (Err r) l p q = p
 
 outputs-among : (c i : ℕ) (t : Session) (rest : List ℕ) → Among file (read_outputs c i t rest).answer
 unfolding read_outputs output_record
@@ -123,7 +122,7 @@ body-among : (t : Session) (rest : List ℕ) → Among file (read_body t rest).a
 unfolding read_body excluded_record
 body-among t rest = go (is_excluded rest)
   where
-    behind : Loaded
+    behind : Result Session Refusal
     behind = read_gates t.m 0 (with_excluded t (excluded_in t.n rest)) (drop (set_bytes t.n) (drop 2 rest))
 
     go : (b : Bool) → Among file (cond b (onward (excluded_record t.n rest) behind) (read_gates t.m 0 t rest)).answer

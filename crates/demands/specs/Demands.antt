@@ -5,11 +5,10 @@ use Rattle.std.specs.Prelude.{◌≡◌, ◌⊎◌, ◌↔◌, true, false, not,
 use Rattle.bits.specs.Range.{any}
 use Rattle.bits.specs.Bit.{bit, table_of}
 use Rattle.bits.specs.Lists.{Bytes, overwritten}
+use Rattle.std.specs.Prelude.{Ok, Err}
+use Rattle.network.specs.Answer.{Done}
 use Rattle.network.specs.declared.Session.{Session}
 use Rattle.network.specs.declared.Refusal.{Refusal}
-use Rattle.network.specs.declared.Answer.TheVariants.{Done, Refused}
-use Rattle.network.specs.declared.TablesAnswer.TheVariants as tables
-use Rattle.network.specs.declared.WriteAnswer.TheVariants as wrote
 use Rattle.network.specs.Net.{Net, arity, is_gate, gate, entries, patterns, excluded, entry_of, Replacement, replaced}
 use Rattle.network.specs.DontCares.{sdc, cdc, NeverGiven, full, harms}
 use Rattle.network.specs.Compatible.{compatible_count, compatible_total, open_table}
@@ -18,9 +17,9 @@ use Rattle.network.specs.Valid.{Shaped}
 use Rattle.network.specs.Refusals.{number_of, said}
 use Rattle.network.specs.Tests.{member}
 use Rattle.network.specs.State.{state_test}
-use Rattle.network.specs.Load.{load_done, load_refused, read_of, opened, load_of}
+use Rattle.network.specs.Load.{read_of, opened, load_of}
 use Rattle.network.specs.Write.{bytes_of}
-use Rattle.network.specs.Calls.{stored, exchange_of, verdict_of, verdict_on, sdc_words, gate_tables, tables_of, set_words, pattern_sets_of, counts_of, counts_for, written_of}
+use Rattle.network.specs.Calls.{stored, exchange_of, verdict_of, verdict_on, sdc_words, gate_tables, tables_of, set_words, pattern_sets_of, counts_of, written_of}
 use Rattle.network.specs.Lists.{Sound, PairExactOf, JudgedOf, FaultedOf, FewOf, ListedOf, UnequalOf, LoneOf}
 use Rattle.network.specs.Sessions.{after, Demand3Of, NoHarm, FirstHarm, Rule4Of, InsideOf, TogetherOf}
 use Rattle.network.specs.Sessions as sessions
@@ -42,30 +41,30 @@ Ends left done ns refused = (left ≡ done) ⊎ ((r : Refusal) × Numbered ns r 
 
 pub record Demand1 : Type 0 where
   -- a loaded network, its open tables with it; or no state
-  pub load : (bytes : List ℕ) → Ends (load_of bytes) (load_done (opened (read_of bytes).session)) (1 ∷ 2 ∷ 3 ∷ 4 ∷ 5 ∷ 6 ∷ 7 ∷ 8 ∷ []) load_refused
+  pub load : (bytes : List ℕ) → Ends (load_of bytes) (Ok (opened (read_of bytes).session)) (1 ∷ 2 ∷ 3 ∷ 4 ∷ 5 ∷ 6 ∷ 7 ∷ 8 ∷ []) Err
   -- a gate's tables
-  pub tables : (s : Session) (g : ℕ) → Ends (tables_of s g) (tables.Given (gate_tables s g)) (10 ∷ 11 ∷ []) tables.Refused
+  pub tables : (s : Session) (g : ℕ) → Ends (tables_of s g) (Ok (gate_tables s g)) (10 ∷ 11 ∷ []) Err
   -- filled pattern words; a refusal leaves the buffer
   pub pattern_sets : (s : Session) (buffer : List ℕ)
       → Ends (pattern_sets_of s buffer) (record { answer = Done; buffer = overwritten (set_words s s.m) buffer }) (9 ∷ 10 ∷ [])
-      (λ r. record { answer = Refused r; buffer = buffer })
+      (λ r. record { answer = Err r; buffer = buffer })
   -- an exchanged gate; a refusal leaves the session
   pub exchange : (s : Session) (r : Replacement)
-      → Ends (exchange_of s r) (record { answer = Done; session = stored s r }) (10 ∷ 11 ∷ 12 ∷ 13 ∷ []) (λ f. record { answer = Refused f; session = s })
+      → Ends (exchange_of s r) (record { answer = Done; session = stored s r }) (10 ∷ 11 ∷ 12 ∷ 13 ∷ []) (λ f. record { answer = Err f; session = s })
   -- a verdict on two lists: harmless, or else 14 names the harm
-  pub verdict : (s : Session) (gs ts : List ℕ) → Ends (verdict_of s gs ts) Done (10 ∷ 11 ∷ 12 ∷ 14 ∷ 15 ∷ 16 ∷ []) Refused
+  pub verdict : (s : Session) (gs ts : List ℕ) → Ends (verdict_of s gs ts) Done (10 ∷ 11 ∷ 12 ∷ 14 ∷ 15 ∷ 16 ∷ []) Err
   -- a written file, with its length; a refusal leaves the buffer
   pub write : (s : Session) (buffer : List ℕ)
-      → Ends (written_of s buffer) (record { answer = wrote.Written (length (bytes_of s)); buffer = overwritten (bytes_of s) buffer }) (9 ∷ 10 ∷ [])
-      (λ r. record { answer = wrote.Refused r; buffer = buffer })
+      → Ends (written_of s buffer) (record { answer = Ok (length (bytes_of s)); buffer = overwritten (bytes_of s) buffer }) (9 ∷ 10 ∷ [])
+      (λ r. record { answer = Err r; buffer = buffer })
   -- the number of patterns in H of each gate
-  pub counts : (s : Session) → Ends (counts_of s) (counts_for Done s) (10 ∷ []) (λ r. counts_for (Refused r) s)
+  pub counts : (s : Session) → Ends (counts_of s) (counts_for Done s) (10 ∷ []) (λ r. counts_for (Err r) s)
   -- request Four: the network of a BLIF text, its open tables with it; or no state
-  pub read_blif : (text : List ℕ) → Ends (read_blif_of text) (load_done (opened (read_blif text).session)) (3 ∷ 17 ∷ 18 ∷ []) load_refused
+  pub read_blif : (text : List ℕ) → Ends (read_blif_of text) (Ok (opened (read_blif text).session)) (3 ∷ 17 ∷ 18 ∷ []) Err
   -- a written text, with its length; a refusal leaves the buffer
   pub write_blif : (s : Session) (buffer : List ℕ)
-      → Ends (write_blif_of s buffer) (record { answer = wrote.Written (length (blif_text s)); buffer = overwritten (blif_text s) buffer }) (3 ∷ 9 ∷ 10 ∷ [])
-      (λ r. record { answer = wrote.Refused r; buffer = buffer })
+      → Ends (write_blif_of s buffer) (record { answer = Ok (length (blif_text s)); buffer = overwritten (blif_text s) buffer }) (3 ∷ 9 ∷ 10 ∷ [])
+      (λ r. record { answer = Err r; buffer = buffer })
 
 -- ## Demand 2: the tables are 01's, a list of replacements is judged exactly, and a network written and read again is the same
 
@@ -93,7 +92,7 @@ pub record Demand2 : Type 0 where
   -- the don't-care tables of each gate equal 01's definitions, and the open table is the one held
   pub tables : (s : Session) (g : ℕ) → state_test s ≡ Done → is_gate (loaded_net s) g ≡ true
       → tables_of s g
-      ≡ tables.Given (record {
+      ≡ Ok (record {
         sdc = sdc_words (sdc (current_net s) g);
         cdc = cdc (current_net s) g;
         full = full (current_net s) g;
@@ -138,10 +137,10 @@ pub record Demand2 : Type 0 where
   pub lone : LoneOf
   -- a network is written into every buffer that is long enough
   pub written : (s : Session) (buffer : List ℕ) → state_test s ≡ Done → length (bytes_of s) ≤ length buffer
-      → written_of s buffer ≡ record { answer = wrote.Written (length (bytes_of s)); buffer = overwritten (bytes_of s) buffer }
+      → written_of s buffer ≡ record { answer = Ok (length (bytes_of s)); buffer = overwritten (bytes_of s) buffer }
   -- and read again it is the same network
   pub round_trip : (s : Session) → Shaped s → state_test s ≡ Done
-      → (t : Session) × (load_of (bytes_of s) ≡ load_done t) × (loaded_net t ≡ current_net s) × (current_net t ≡ current_net s)
+      → (t : Session) × (load_of (bytes_of s) ≡ Ok t) × (loaded_net t ≡ current_net s) × (current_net t ≡ current_net s)
   -- request Five: where no record `4E 48` opens what is left, a gate's tests are 01's; so old files load as before
   pub old_record : OldRecord
   pub old_files : OldFiles
@@ -149,7 +148,7 @@ pub record Demand2 : Type 0 where
   pub old_bytes : OldBytes
   pub old_written : OldWritten
   -- all this holds in every session that a load and exchanges give
-  pub reached : (bytes : List ℕ) (s : Session) (rs : List Replacement) → Bytes bytes → load_of bytes ≡ load_done s → Reached s (after s rs)
+  pub reached : (bytes : List ℕ) (s : Session) (rs : List Replacement) → Bytes bytes → load_of bytes ≡ Ok s → Reached s (after s rs)
   -- and there a lone replacement is harmless exactly when it alters only entries of the full table
   pub rule4 : Rule4Of
   -- of the loaded table too; and each open entry is one of the full table
@@ -168,10 +167,10 @@ pub record Demand2 : Type 0 where
   pub blif_file : BlifFile
   -- nothing is excluded in it, and demand 3, rule 4, open inside full and the bridge of several gates hold of it
   pub blif_fresh : BlifFresh
-  pub blif_reached : (text : List ℕ) (s : Session) (rs : List Replacement) → read_blif_of text ≡ load_done s → Reached s (after s rs)
+  pub blif_reached : (text : List ℕ) (s : Session) (rs : List Replacement) → read_blif_of text ≡ Ok s → Reached s (after s rs)
 
 -- ## Demand 3: of every list of exchanges, in every session fresh from a load or from a BLIF text
 
 pub record Demand3 : Type 0 where
   pub load : Demand3Of
-  pub read_blif : (text : List ℕ) (s : Session) (rs : List Replacement) → read_blif_of text ≡ load_done s → sessions.Demand3 s rs
+  pub read_blif : (text : List ℕ) (s : Session) (rs : List Replacement) → read_blif_of text ≡ Ok s → sessions.Demand3 s rs

@@ -11,13 +11,12 @@ use lib.Seq.{length-take-le, get_or-set_other, drop-set-lt}
 use borrow.Author.Tests.{ltb-false}
 use Rattle.bits.specs.Lists.{overwritten}
 use Rattle.bits.proofs.Ranges.{every-i}
+use Rattle.std.specs.Prelude.{Ok, Err}
+use Rattle.network.specs.Answer.{Answer, Done, answer_of, giving}
 use Rattle.network.specs.declared.Session.{Session}
 use Rattle.network.specs.declared.Refusal.TheVariants.{BufferTooShort}
-use Rattle.network.specs.declared.Answer.{Answer}
-use Rattle.network.specs.declared.Answer.TheVariants.{Done, Refused}
 use Rattle.network.specs.Bounds.{most_gates, most_outputs, fanin_places, excluded_words}
 use Rattle.network.specs.State.{state_test}
-use Rattle.network.specs.Load.{load_done, onward}
 use Rattle.network.specs.Valid.{Sized, Narrow}
 use Rattle.network.specs.Calls.{with_current, room_test}
 use Rattle.network.proofs.TestLaws.{passed, clear-e}
@@ -94,28 +93,28 @@ current-set ws g t h l =
 
 -- ## With the tests
 
-answered : (a : Answer) (s : Session) → (onward a (load_done s)).answer ≡ a
-answered Done s = refl
-answered (Refused r) s = refl
+answered : (a : Answer) (s : Session) → answer_of (giving a s) ≡ a
+answered (Ok _) s = refl
+answered (Err r) s = refl
 
 -- `unpack` answers what the tests of the words say
-pub unpack-answer : (ws : List ℕ) → (unpack_of ws).answer ≡ words_test ws
+pub unpack-answer : (ws : List ℕ) → answer_of (unpack_of ws) ≡ words_test ws
 unfolding unpack_of
 unpack-answer ws = answered (words_test ws) (session_in ws)
 
 -- words that `unpack` accepts are enough for a session
-accepted-long : (ws : List ℕ) → (unpack_of ws).answer ≡ Done → session_words ≤ length ws
+accepted-long : (ws : List ℕ) → answer_of (unpack_of ws) ≡ Done → session_words ≤ length ws
 unfolding words_test
 accepted-long ws e =
     let t = clear-e (room_test session_words ws ∷ bytes_test ws ∷ state_test (session_in ws) ∷ []) (sym (unpack-answer ws) ∙ e) in
     ltb-false (length ws) session_words (passed (ltb (length ws) session_words) BufferTooShort t.0)
 
 -- to pack the session that `unpack` gave changes no word
-pub repacked : (ws : List ℕ) → (unpack_of ws).answer ≡ Done → overwritten (packed_of (session_in ws)) ws ≡ ws
+pub repacked : (ws : List ℕ) → answer_of (unpack_of ws) ≡ Done → overwritten (packed_of (session_in ws)) ws ≡ ws
 repacked ws e = read-over ws ws (accepted-long ws e) refl
 
 -- `unpack` gives back every valid session that was packed, over whatever words
-pub unpacks : (s : Session) (ws : List ℕ) → Sized s → Narrow s → state_test s ≡ Done → unpack_of (overwritten (packed_of s) ws) ≡ load_done s
+pub unpacks : (s : Session) (ws : List ℕ) → Sized s → Narrow s → state_test s ≡ Done → unpack_of (overwritten (packed_of s) ws) ≡ Ok s
 unpacks s ws z b v =
     let behind = drop (length (packed_of s)) ws in
     let new = packed_of s ++ behind in

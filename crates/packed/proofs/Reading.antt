@@ -12,13 +12,13 @@ use lib.Seq.{take-suc, drop-cons, drop-length, get_or-drop, set_at, length-take-
 use borrow.Author.Tests.{lt-ltb, le-ltb, ltb-true}
 use Rattle.bits.specs.Range.{every}
 use Rattle.bits.proofs.Ranges.{and_l, and_r, and_i, and-true, and_assoc, iff}
+use Rattle.std.specs.Prelude.{Ok, Err}
+use Rattle.network.specs.Answer.{Answer, giving}
 use Rattle.network.specs.declared.Session.{Session}
 use Rattle.network.specs.declared.Refusal.TheVariants.{BufferTooShort, InvalidState}
-use Rattle.network.specs.declared.Answer.{Answer}
 use Rattle.network.specs.Bounds.{most_gates, most_outputs, fanin_places, excluded_words}
 use Rattle.network.specs.State.{state_test}
 use Rattle.network.specs.Valid.{Sized}
-use Rattle.network.specs.Load.{load_done, load_refused, onward}
 use Rattle.network.proofs.TestLaws.{alone}
 use Rattle.packed.specs.Packed.{bytes_held, words_held, byte_words, part, session_in, all_bytes, bytes_test, words_test, unpack_of, arity_start, fanins_start, outputs_start, excluded_start, loaded_start, current_start, open_start, session_words}
 
@@ -105,18 +105,18 @@ reads ws a f o e l c u = rw (a, f, o, e, l, c, u)
 -- ## The tests of lent words
 
 module _ (ws : List ℕ) where
-  pub too_short : length ws < session_words → load_refused BufferTooShort ≡ unpack_of ws
+  pub too_short : length ws < session_words → Err BufferTooShort ≡ unpack_of ws
   unfolding unpack_of words_test
   too_short h = rw (lt-ltb (length ws) session_words h)
 
   abbrev fitting : Bool
   fitting = every byte_words (λ i. ltb (get_or ws i 0) 256)
 
-  pub no_byte : session_words ≤ length ws → fitting ≡ false → load_refused InvalidState ≡ unpack_of ws
+  pub no_byte : session_words ≤ length ws → fitting ≡ false → Err InvalidState ≡ unpack_of ws
   unfolding unpack_of words_test bytes_test
   no_byte h e = rw (le-ltb (length ws) session_words h, bytes-every ws byte_words (omega arith), e)
 
-  pub tested : {v a : Answer} (s : Session) → session_words ≤ length ws → fitting ≡ true → s ≡ session_in ws → v ≡ state_test s → v ≡ a → onward a (load_done s) ≡ unpack_of ws
+  pub tested : {v a : Answer} (s : Session) → session_words ≤ length ws → fitting ≡ true → s ≡ session_in ws → v ≡ state_test s → v ≡ a → giving a s ≡ unpack_of ws
   unfolding unpack_of words_test bytes_test
   tested {v} {a} s h e q k i =
-      rw (le-ltb (length ws) session_words h, bytes-every ws byte_words (omega arith), e, ← q, ← k, i) (ap (λ (b : Answer). onward b (load_done s)) (alone a))
+      rw (le-ltb (length ws) session_words h, bytes-every ws byte_words (omega arith), e, ← q, ← k, i) (ap (λ (b : Answer). giving b s) (alone a))

@@ -1,13 +1,13 @@
 -- A session as a list of numbers, one to a word: how a program in another language holds it. Assumes nothing.
 use Rattle.std.specs.Prelude.{Bool, true, not, ◌&&◌, List, [], ◌∷◌, ◌++◌, ℕ, ◌+◌, ltb, get_or, take, drop}
+use Rattle.std.specs.Prelude.{Result}
+use Rattle.network.specs.Answer.{Answer, giving}
+use Rattle.network.specs.declared.Refusal.{Refusal}
 use Rattle.network.specs.declared.Session.{Session}
-use Rattle.network.specs.declared.Loaded.{Loaded}
 use Rattle.network.specs.declared.Refusal.TheVariants.{InvalidState}
-use Rattle.network.specs.declared.Answer.{Answer}
 use Rattle.network.specs.Bounds.{most_gates, most_outputs, fanin_places, excluded_words}
 use Rattle.network.specs.Tests.{refuse_if, first}
 use Rattle.network.specs.State.{state_test}
-use Rattle.network.specs.Load.{load_done, onward}
 use Rattle.network.specs.Calls.{room_test}
 
 -- the numbers that a session holds in bytes
@@ -83,5 +83,5 @@ bytes_test ws = refuse_if (not (all_bytes (take byte_words ws))) InvalidState
 unfoldable pub words_test : List ℕ → Answer
 words_test ws = first (room_test session_words ws ∷ bytes_test ws ∷ state_test (session_in ws) ∷ [])
 
-unfoldable pub unpack_of : List ℕ → Loaded
-unpack_of ws = onward (words_test ws) (load_done (session_in ws))
+unfoldable pub unpack_of : List ℕ → Result Session Refusal
+unpack_of ws = giving (words_test ws) (session_in ws)

@@ -9,9 +9,7 @@ ghost use Rattle.network.specs.Bounds.{most_gates};
 ghost use Rattle.network.specs.Calls.{with_current};
 ghost use Rattle.packed.specs.Packed.{bytes_held, words_held, packed_of, session_words, part, session_in, unpack_of, excluded_start, byte_words};
 
-use network::{
-    Answer, EXCLUDED_WORDS, FANIN_PLACES, Loaded, MOST_GATES, MOST_OUTPUTS, Refusal, Session,
-};
+use network::{EXCLUDED_WORDS, FANIN_PLACES, MOST_GATES, MOST_OUTPUTS, Refusal, Session};
 
 // Where each part of a session starts behind the three counts.
 const ARITY_START: usize = 3;
@@ -159,22 +157,16 @@ fn session_in(words: &[u64]) -> Session
 }
 
 // The session that any words hold, or 9 or 10.
-pub fn unpack(words: &[u64]) -> Loaded
+pub fn unpack(words: &[u64]) -> Result<Session, Refusal>
     ensures { result ≡ unpack_of words.now }
 {
     if words.len() < SESSION_WORDS {
-        return network::refused(Refusal::BufferTooShort);
+        return Err(Refusal::BufferTooShort);
     }
     if !fit(words, BYTE_WORDS) {
-        return network::refused(Refusal::InvalidState);
+        return Err(Refusal::InvalidState);
     }
     let s = session_in(words);
-    let v = state::state_test(s);
-    if let Answer::Refused(r) = v {
-        return network::refused(r);
-    }
-    Loaded {
-        answer: Answer::Done,
-        session: s,
-    }
+    state::state_test(s)?;
+    Ok(s)
 }

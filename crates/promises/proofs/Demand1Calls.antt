@@ -12,11 +12,11 @@ use lib.ListN.{length, set, length-append, length-set}
 use Rattle.bits.specs.Range.{places}
 use Rattle.bits.proofs.Ranges.{or_r, length-places}
 use Rattle.bits.proofs.Logic.{clash}
+use Rattle.std.specs.Prelude.{Result, Err}
+use Rattle.network.specs.Answer.{Answer, Done}
+use Rattle.network.specs.declared.Refusal.{Refusal}
 use Rattle.network.specs.declared.Session.{Session}
-use Rattle.network.specs.declared.Loaded.{Loaded}
 use Rattle.network.specs.declared.Refusal.TheVariants.{BufferTooShort, InvalidState}
-use Rattle.network.specs.declared.Answer.{Answer}
-use Rattle.network.specs.declared.Answer.TheVariants.{Done, Refused}
 use Rattle.network.specs.Net.{Net, Replacement}
 use Rattle.network.specs.Compatible.{compatible_count}
 use Rattle.network.specs.Flat.{loaded_net}
@@ -75,7 +75,7 @@ unfolding listing_call listing_into
 listing-ends file text out =
     let new = listing_of file in
     let Q : Answer → Type 0 = EndsBy new text (length new ∷ []) out (9 ∷ []) in
-    let short : Q (Refused BufferTooShort) = inr (9, refl, refl) in
+    let short : Q (Err BufferTooShort) = inr (9, refl, refl) in
     room_by (Before Q (first ((listing_into file text).answer ∷ []))) 1 out short
     (λ o. room_by (Filling (Before Q Done) new text) (length new) text short (λ t. inl (t, o, refl)))
 
@@ -105,8 +105,8 @@ module _ (ws : List ℕ) where
       → EndsBy new buffer given out (9 ∷ 10 ∷ []) (first (words_test ws ∷ room_test room out ∷ fill_answer s new buffer ∷ []))
   fills-end room given new buffer out e =
       let Q : Answer → Type 0 = EndsBy new buffer given out (9 ∷ 10 ∷ []) in
-      let short : Q (Refused BufferTooShort) = inr (9, refl, refl) in
-      let bad : Q (Refused InvalidState) = inr (10, refl, refl) in
+      let short : Q (Err BufferTooShort) = inr (9, refl, refl) in
+      let bad : Q (Err InvalidState) = inr (10, refl, refl) in
       session-by Q ws out (record { room = room; tests = fill_answer s new buffer ∷ []; given = given; new = new }) short bad
       (λ v o. fill-by (Before Q Done) new buffer s bad short (λ b. inl (b, omega arith, refl)))
 
@@ -116,7 +116,7 @@ module _ (ws : List ℕ) where
   write-blif-ends text out =
       let new = blif_text s in
       let Q : Answer → Type 0 = EndsBy new text (length new ∷ []) out (3 ∷ 9 ∷ 10 ∷ []) in
-      let short : Q (Refused BufferTooShort) = inr (9, refl, refl) in
+      let short : Q (Err BufferTooShort) = inr (9, refl, refl) in
       let rooms = room_test 1 out ∷ room_test (length new) text ∷ [] in
       session-by Q ws out (write_blif_work text out s) short (inr (10, refl, refl))
       (λ v z. copies-by (Before Q (first rooms))
@@ -134,7 +134,7 @@ module _ (ws : List ℕ) where
       let rs = pairs gs ts in
       let M = all_in_place s rs in
       let ok : Q Done = inl (omega arith, omega arith, refl) in
-      let bad : Q (Refused InvalidState) = inr (inl (10, refl, refl)) in
+      let bad : Q (Err InvalidState) = inr (inl (10, refl, refl)) in
       session-by Q ws out (verdict_work gs ts s) (inr (inl (9, refl, refl))) bad
       (λ v o. first_by R ok (state_test s ∷ lengths_test gs ts ∷ pairs_test N [] rs ∷ harm_test N M ∷ []) (
         state-by R s bad (λ u. ok),
@@ -156,7 +156,7 @@ module _ (ws : List ℕ) where
       Gives l new ws [] out ⊎ (Refuses l (9 ∷ 10 ∷ 11 ∷ 12 ∷ []) ws out ⊎ ((t : ℕ) × Names l 13 (t ∷ []) ws out)) in
       let R = Before Q Done in
       let shut = held_closed s r.signal in
-      let bad : Q (Refused InvalidState) = inr (inl (10, refl, refl)) in
+      let bad : Q (Err InvalidState) = inr (inl (10, refl, refl)) in
       session-by Q ws out (exchange_work r s) (inr (inl (9, refl, refl))) bad
       (λ v o.
       let ok : Q Done = inl (stored-room ws r v, omega arith, refl) in
@@ -182,16 +182,16 @@ last-number : (y : ℕ) (ys : List ℕ) → member y (ys ++ y ∷ []) ≡ true
 last-number y [] = rw (eq-eqb y y refl)
 last-number y (z ∷ ys) = or_r (eqb z y) (member y (ys ++ y ∷ [])) (last-number y ys)
 
-read-ends : {l : Loaded} {ns : List ℕ} → Reader l ns → (session : List ℕ) → Ends (read_call l session) (packed_of l.session) session [] [] (ns ++ 9 ∷ [])
+read-ends : {l : Result Session Refusal} {ns : List ℕ} → Reader l ns → (session : List ℕ) → Ends (read_call l session) (packed_of l.session) session [] [] (ns ++ 9 ∷ [])
 read-ends {l} {ns} reads session =
     let Q : Answer → Type 0 = EndsBy (packed_of l.session) session [] [] (ns ++ 9 ∷ []) in
     let room = room_test session_words session in
     let by : (a : Answer) → l.answer ≡ a → Q (first (a ∷ room ∷ [])) → Q (read_answer l session) = λ a e q. rw e q in
     ⊎_elim
-    (λ d. let e = ap (λ (x : Loaded). x.answer) d in
+    (λ d. let e = ap (λ (x : Result Session Refusal). x.answer) d in
     by Done e (room_by (Before Q Done) session_words session (inr (9, last-number 9 ns, refl)) (λ h. inl (read-room l session (reads.sized e) h, omega arith, refl))))
-    (λ f. let e = ap (λ (x : Loaded). x.answer) f.2 in
-    by (Refused f.0) e (inr (number_of f.0, more_numbers (number_of f.0) 9 ns f.1, rw (sym (ap (λ (a : Answer). values_for a []) e) ∙ reads.none))))
+    (λ f. let e = ap (λ (x : Result Session Refusal). x.answer) f.2 in
+    by (Err f.0) e (inr (number_of f.0, more_numbers (number_of f.0) 9 ns f.1, rw (sym (ap (λ (a : Answer). values_for a []) e) ∙ reads.none))))
     reads.ends
 
 -- ## All the calls

@@ -14,12 +14,11 @@ use Rattle.bits.specs.Lists.{overwritten}
 use Rattle.bits.specs.Bit.{bit}
 use Rattle.bits.proofs.Ranges.{places-at}
 use Rattle.bits.proofs.Logic.{clash}
+use Rattle.std.specs.Prelude.{Result, Ok, Err}
+use Rattle.network.specs.Answer.{Answer, Done}
 use Rattle.network.specs.declared.Session.{Session}
-use Rattle.network.specs.declared.Loaded.{Loaded}
 use Rattle.network.specs.declared.Refusal.{Refusal}
 use Rattle.network.specs.declared.Refusal.TheVariants.{BufferTooShort, InvalidState, Harm}
-use Rattle.network.specs.declared.Answer.{Answer}
-use Rattle.network.specs.declared.Answer.TheVariants.{Done, Refused}
 use Rattle.network.specs.Bounds.{most_fanins, excluded_words}
 use Rattle.network.specs.Net.{Net, arity, is_gate, gate as gate_of, patterns, Replacement, signals, new_tables}
 use Rattle.network.specs.DontCares.{sdc, NeverGiven}
@@ -29,7 +28,7 @@ use Rattle.network.specs.Refusals.{number_of, said}
 use Rattle.network.specs.Tests.{member, first}
 use Rattle.network.specs.State.{arity_of, state_test}
 use Rattle.network.specs.Valid.{Shaped}
-use Rattle.network.specs.Load.{load_done, load_of}
+use Rattle.network.specs.Load.{load_of}
 use Rattle.network.specs.Write.{bytes_of}
 use Rattle.network.specs.Calls.{gate_test, harm_test, lengths_test, pairs, pairs_test, verdict_of, verdict_on, gate_tables, filled, room_test, set_words, pattern_sets_of, write_of}
 use Rattle.network.specs.Lists.{FirstFault}
@@ -63,7 +62,7 @@ gives : {a : Answer} (given new buffer out : List ℕ) → a ≡ Done → length
     → Gives (left a given new buffer out) new buffer given out
 gives given new buffer out e b o = (b, o, rw e)
 
-read-gives : {l : Loaded} {ns : List ℕ} → Reader l ns → (session : List ℕ) → l.answer ≡ Done → session_words ≤ length session
+read-gives : {l : Result Session Refusal} {ns : List ℕ} → Reader l ns → (session : List ℕ) → l.answer ≡ Done → session_words ≤ length session
     → Gives (read_call l session) (packed_of l.session) session [] []
 read-gives {l} reads session e h =
     gives [] (packed_of l.session) session [] (clear-i (l.answer ∷ room_test session_words session ∷ []) (e, (room-i session_words session h, tt)))
@@ -138,14 +137,14 @@ module _ (ws : List ℕ) (rs : List Replacement) (out : List ℕ) (j : Asks ws r
   left_by (n ∷ values) = record { number = n; buffer = []; out = overwritten values out }
 
   verdict-says : (a : Answer) → left a [] [] [] out ≡ left_by (said a)
-  verdict-says Done = refl
-  verdict-says (Refused r) = refl
+  verdict-says (Ok _) = refl
+  verdict-says (Err r) = refl
 
   -- and nothing else leaves that
   says_nothing : (a : Answer) → left a [] [] [] out ≡ left_by [] → said a ≡ []
   says_nothing a e = ap said (zero-done a (ap (λ (l : Left). l.number) e))
 
-  says-harm : (a : Answer) → (a ≡ Done) ⊎ ((y : ℕ) × (k : ℕ) × (a ≡ Refused (Harm y k))) → (x i : ℕ) → left a [] [] [] out ≡ left_by (14 ∷ x ∷ i ∷ []) → said a ≡ 14 ∷ x ∷ i ∷ []
+  says-harm : (a : Answer) → (a ≡ Done) ⊎ ((y : ℕ) × (k : ℕ) × (a ≡ Err (Harm y k))) → (x i : ℕ) → left a [] [] [] out ≡ left_by (14 ∷ x ∷ i ∷ []) → said a ≡ 14 ∷ x ∷ i ∷ []
   says-harm a only x i e =
       ⊎_elim (λ d. let n : ◌≡◌ {A = ℕ} 0 14 = sym (ap number_for d) ∙ ap (λ (l : Left). l.number) e in absurd (omega arith))
       (λ f.
@@ -184,9 +183,9 @@ faulted-is ws rs f out v o w =
     let N = loaded_net s in
     let e = (faulted-of N rs f).1 w in
     let names : NamesMost 0 (pairs_test N [] rs) = pairs-by (NamesMost 0) N [] rs (omega arith) (omega arith) (omega arith) (omega arith) in
-    let is : verdict_on s rs ≡ Refused f = rw (words-state ws v, lengths-fine rs, pairs-back rs, e) in
+    let is : verdict_on s rs ≡ Err f = rw (words-state ws v, lengths-fine rs, pairs-back rs, e) in
     verdict-left ws (signals rs) (new_tables rs) out v o
-    ∙ ap (λ (x : Answer). left x [] [] [] out) is ∙ sym (refused {a = Refused f} [] [] [] out refl (rw e at names) refl)
+    ∙ ap (λ (x : Answer). left x [] [] [] out) is ∙ sym (refused {a = Err f} [] [] [] out refl (rw e at names) refl)
 
 unequal-is : (ws gs ts out : List ℕ) → (length gs ≡ length ts → ⊥) → words_test ws ≡ Done → 2 ≤ length out
     → verdict_call ws gs ts out ≡ record { number = 15; buffer = []; out = out }
@@ -219,17 +218,17 @@ unfolding write_call write_of
 write-passed ws file out =
     let s = session_in ws in
     let Q : Answer → Type 0 = λ a. number_for a ≡ 0 → (words_test ws ≡ Done) × (1 ≤ length out) × (length (bytes_of s) ≤ length file) in
-    let short : Q (Refused BufferTooShort) = λ e. (let z : ⊥ = omega arith in absurd z) in
-    let bad : Q (Refused InvalidState) = λ e. (let z : ⊥ = omega arith in absurd z) in
+    let short : Q (Err BufferTooShort) = λ e. (let z : ⊥ = omega arith in absurd z) in
+    let bad : Q (Err InvalidState) = λ e. (let z : ⊥ = omega arith in absurd z) in
     session-by Q ws out (write_work file s) short bad (λ v o. fill-by (Before Q Done) (bytes_of s) file s bad short (λ b e. (v, o, b)))
 
 -- a call that reads leaves words that hold what it read
-read-holds : {l : Loaded} {ns : List ℕ} → Reader l ns → (session : List ℕ) (t : Session) → l ≡ load_done t → session_words ≤ length session
+read-holds : {l : Result Session Refusal} {ns : List ℕ} → Reader l ns → (session : List ℕ) (t : Session) → l ≡ Ok t → session_words ≤ length session
     → ((read_call l session).number ≡ 0) × (session_in (read_call l session).buffer ≡ t)
 read-holds {l} reads session t e room =
-    let done = ap (λ (x : Loaded). x.answer) e in
+    let done = ap (λ (x : Result Session Refusal). x.answer) e in
     let is = (read-gives reads session done room).2 in
-    let same = ap (λ (x : Loaded). x.session) e in
+    let same = ap (λ (x : Result Session Refusal). x.session) e in
     (ap (λ (x : Left). x.number) is, ap (λ (x : Left). session_in x.buffer) is ∙ packed-back l.session (drop (length (packed_of l.session)) session) (reads.sized done) ∙ same)
 
 module _ (ws file out session : List ℕ) (h : Words ws) (e : (write_call ws file out).number ≡ 0) (room : session_words ≤ length session) where
@@ -347,7 +346,7 @@ demand2-calls = record {
   write = write-gives;
   write_blif = λ ws text out v c o t. write-blif-gives ws text out (v, c, o, t);
   sdc_entries = sdc-shown;
-  old_files = λ file session h. ap (λ (l : Loaded). read_call l session) (demand2.old_files.1 file h);
+  old_files = λ file session h. ap (λ (l : Result Session Refusal). read_call l session) (demand2.old_files.1 file h);
   old_written = λ ws file out v few o b. let e = demand2.old_written (session_in ws) few in
       subst (λ (bs : List ℕ). length bs ≤ length file → Gives (write_call ws file out) bs file (length bs ∷ []) out) e (write-gives ws file out v o) b;
   cdc_exact = λ ws gate out z. let C = current_net (session_in ws) in

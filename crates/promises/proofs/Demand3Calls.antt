@@ -11,16 +11,16 @@ use lib.ListN.{length, drop, length-append, length-drop}
 use lib.Seq.{drop_at}
 use Rattle.bits.specs.Lists.{overwritten}
 use Rattle.bits.proofs.Ranges.{by_cases}
+use Rattle.std.specs.Prelude.{Result, Ok, Err}
+use Rattle.network.specs.Answer.{Answer, Done}
+use Rattle.network.specs.declared.Refusal.{Refusal}
 use Rattle.network.specs.declared.Session.{Session}
-use Rattle.network.specs.declared.Loaded.{Loaded}
-use Rattle.network.specs.declared.Answer.{Answer}
-use Rattle.network.specs.declared.Answer.TheVariants.{Done, Refused}
 use Rattle.network.specs.Net.{Net, output, Replacement}
 use Rattle.network.specs.Flat.{loaded_net, current_net}
 use Rattle.network.specs.Valid.{Sized, Narrow}
 use Rattle.network.specs.Tests.{or_else, first}
 use Rattle.network.specs.State.{state_test}
-use Rattle.network.specs.Load.{load_done, load_of}
+use Rattle.network.specs.Load.{load_of}
 use Rattle.network.specs.Write.{bytes_of}
 use Rattle.network.specs.Calls.{stored, exchange_answer, exchanged, exchange_of, room_test, filled}
 use Rattle.network.specs.Sessions.{after, answers, answer_by}
@@ -53,7 +53,7 @@ over-length new ws h = simp (length-append, length-drop) (omega arith)
 holds-packed : (s : Session) (ws : List ℕ) → Sized s → Narrow s → state_test s ≡ Done → Holds (overwritten (packed_of s) ws) s
 holds-packed s ws z b v = record {
   session = packed-back s (drop (length (packed_of s)) ws) z;
-  passes = sym (unpack-answer (overwritten (packed_of s) ws)) ∙ ap (λ (l : Loaded). l.answer) (unpacks s ws z b v);
+  passes = sym (unpack-answer (overwritten (packed_of s) ws)) ∙ ap (λ (l : Result Session Refusal). l.answer) (unpacks s ws z b v);
 }
 
 module _ {ws : List ℕ} {s : Session} (h : Holds ws s) where
@@ -111,8 +111,8 @@ module _ {N : Net} {s : Session} (y : Steady N s) where
   steady-answer r = sym (given (exchange_answer s r)) ∙ (heads (y.answered (r ∷ []))).0
     where
       given : (a : Answer) → (exchanged a s r).answer ≡ a
-      given Done = refl
-      given (Refused f) = refl
+      given (Ok _) = refl
+      given (Err f) = refl
 
   steady-length : length (packed_of s) ≡ session_words
   steady-length = packed-length s (y.sized [])
@@ -137,8 +137,8 @@ made a = cond (ltb (length a.out) 1) [] (a.exchange ∷ [])
 module _ {N : Net} {ws : List ℕ} {s : Session} (h : Holds ws s) (y : Steady N s) where
   -- an exchange with this answer packs the session that it hands on
   packs : (r : Replacement) (a : Answer) → (filled (or_else a Done) (packed_of (stored s r)) ws).buffer ≡ overwritten (packed_of (exchanged a s r).session) ws
-  packs r Done = refl
-  packs r (Refused f) = sym (held_same h)
+  packs r (Ok _) = refl
+  packs r (Err f) = sym (held_same h)
 
   call-words : (a : Asked) → (filled (asked_answer N a) (packed_of (stored s a.exchange)) ws).buffer ≡ overwritten (packed_of (after s (made a))) ws
   unfolding exchange_of
@@ -250,15 +250,15 @@ module _ {ws : List ℕ} {s : Session} (at : Ready ws s) where
 -- ## Of every file that loads and every BLIF text that reads
 
 -- a call that gives 0 read a network, and packed its session over the words that it was lent
-read_done : (l : Loaded) (session : List ℕ) → (read_call l session).number ≡ 0
-    → (l ≡ load_done l.session) × ((read_call l session).buffer ≡ overwritten (packed_of l.session) session)
+read_done : (l : Result Session Refusal) (session : List ℕ) → (read_call l session).number ≡ 0
+    → (l ≡ Ok l.session) × ((read_call l session).buffer ≡ overwritten (packed_of l.session) session)
 read_done l session z =
     let a = zero-done (read_answer l session) z in
     let c = clear-e (l.answer ∷ room_test session_words session ∷ []) a in
     (done-whole l c.0, ap (λ (b : Answer). (filled b (packed_of l.session) session).buffer) a)
 
 -- where what it read is as a load gives it
-read-ready : (l : Loaded) (session : List ℕ) → (read_call l session).number ≡ 0 → ((s : Session) → l ≡ load_done s → (bytes : List ℕ) × (load_of bytes ≡ load_done s))
+read-ready : (l : Result Session Refusal) (session : List ℕ) → (read_call l session).number ≡ 0 → ((s : Session) → l ≡ Ok s → (bytes : List ℕ) × (load_of bytes ≡ Ok s))
     → Ready (read_call l session).buffer l.session
 read-ready l session z loads =
     let s = l.session in
@@ -274,7 +274,7 @@ pub blif-ready : (text session : List ℕ) → (read_blif_call text session).num
 unfolding read_blif_call
 blif-ready text session z = read-ready (read_blif_of text) session z (λ s e. (bytes_of s, blif-words text s e))
 
-from-ready : (l : Loaded) (c : Left) (list : List Asked) → l ≡ load_done l.session → Ready c.buffer l.session → Demand3From l c list
+from-ready : (l : Result Session Refusal) (c : Left) (list : List Asked) → l ≡ Ok l.session → Ready c.buffer l.session → Demand3From l c list
 from-ready l c list e at = (e, at.holds, demand3 l.session at.fresh (roomy list), demand3-calls at list)
 
 pub demand3-of-calls : Demand3OfCalls

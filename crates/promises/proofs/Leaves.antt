@@ -5,15 +5,13 @@ use Prim.Native.Nat.{ℕ, ◌≤◌}
 use native.Mathlib.Omega.{arith}
 use lib.ListN.{length}
 use Rattle.bits.specs.Lists.{overwritten}
+use Rattle.std.specs.Prelude.{Result, Ok, Err}
+use Rattle.network.specs.Answer.{Answer, Done, onward}
 use Rattle.network.specs.declared.Session.{Session}
-use Rattle.network.specs.declared.Loaded.{Loaded}
 use Rattle.network.specs.declared.Refusal.{Refusal}
-use Rattle.network.specs.declared.Answer.{Answer}
-use Rattle.network.specs.declared.Answer.TheVariants.{Done, Refused}
 use Rattle.network.specs.Refusals.{number_of, values_of}
 use Rattle.network.specs.Tests.{first}
 use Rattle.network.specs.State.{state_test}
-use Rattle.network.specs.Load.{load_done, onward}
 use Rattle.network.specs.Calls.{room_test}
 use Rattle.network.proofs.TestLaws.{clear-e, alone, stopped, went_on}
 use Rattle.packed.specs.Packed.{session_words, session_in, words_test, unpack_of}
@@ -27,11 +25,11 @@ abbrev pub Leaves : Left → (number : ℕ) (buffer out : List ℕ) → Type 0
 Leaves x number buffer out = record { number = number; buffer = buffer; out = out } ≡ x
 
 module _ {a : Answer} (given new buffer out : List ℕ) where
-  pub refused-with : {r : Refusal} {k : ℕ} {o : List ℕ} → a ≡ Refused r → k ≡ number_of r → o ≡ overwritten (values_of r) out → Leaves (left a given new buffer out) k buffer o
+  pub refused-with : {r : Refusal} {k : ℕ} {o : List ℕ} → a ≡ Err r → k ≡ number_of r → o ≡ overwritten (values_of r) out → Leaves (left a given new buffer out) k buffer o
   refused-with e p q = rw (e, p, q)
 
   -- a refusal that names nothing changes nothing
-  pub refused : {r : Refusal} {k : ℕ} → a ≡ Refused r → NamesMost 0 a → k ≡ number_of r → Leaves (left a given new buffer out) k buffer out
+  pub refused : {r : Refusal} {k : ℕ} → a ≡ Err r → NamesMost 0 a → k ≡ number_of r → Leaves (left a given new buffer out) k buffer out
   refused {r} e h p = refused-with e p (rw (none (values_of r) (rw e at h)))
     where
       none : (l : List ℕ) → length l ≤ 0 → l ≡ []
@@ -53,30 +51,30 @@ room-passed x needed buffer f h =
     let c = clear-e (x ∷ room_test needed buffer ∷ []) (sym f ∙ h) in
     (c.0, room-e needed buffer c.1.0)
 
-module _ (ws : List ℕ) {l : Loaded} (e : l ≡ unpack_of ws) where
+module _ (ws : List ℕ) {l : Result Session Refusal} (e : l ≡ unpack_of ws) where
   -- tests of what the words hold are tests of what was unpacked
   same_tests : (f : Session → List Answer) → first (l.answer ∷ f l.session) ≡ first (words_test ws ∷ f (session_in ws))
   unfolding unpack_of
   same_tests f = rw e (go (words_test ws))
     where
-      go : (w : Answer) → first ((onward w (load_done (session_in ws))).answer ∷ f (onward w (load_done (session_in ws))).session) ≡ first (w ∷ f (session_in ws))
-      go Done = refl
-      go (Refused r) = refl
+      go : (w : Answer) → first ((onward w (Ok (session_in ws))).answer ∷ f (onward w (Ok (session_in ws))).session) ≡ first (w ∷ f (session_in ws))
+      go (Ok _) = refl
+      go (Err r) = refl
 
   words-fine : l.answer ≡ Done → words_test ws ≡ Done
   words-fine h = alone (words_test ws) ∙ sym (same_tests (λ s. [])) ∙ rw h
 
   held : l.answer ≡ Done → l.session ≡ session_in ws
   unfolding unpack_of
-  held h = ap (λ (x : Loaded). x.session) e ∙ rw (words-fine h)
+  held h = ap (λ (x : Result Session Refusal). x.session) e ∙ rw (words-fine h)
 
 -- `a` is the answer of the words and of the room
-module _ (work : Session → Work) (ws buffer out : List ℕ) {l : Loaded} {a : Answer}
+module _ (work : Session → Work) (ws buffer out : List ℕ) {l : Result Session Refusal} {a : Answer}
     (e : l ≡ unpack_of ws) (f : a ≡ first (l.answer ∷ room_test (work l.session).room out ∷ [])) where
   abbrev tests : Session → List Answer
   tests s = room_test (work s).room out ∷ []
 
-  pub down : {r : Refusal} {k : ℕ} → a ≡ Refused r → k ≡ number_of r → Leaves (on_session work ws buffer out) k buffer out
+  pub down : {r : Refusal} {k : ℕ} → a ≡ Err r → k ≡ number_of r → Leaves (on_session work ws buffer out) k buffer out
   down h p =
       let s = session_in ws in
       let x = f ∙ same_tests ws e tests in

@@ -7,10 +7,10 @@ use Prim.Native.Nat.{ℕ, ◌≤◌}
 use native.Mathlib.Omega.{arith}
 use lib.ListN.{length, get_or, drop}
 use Rattle.bits.proofs.Logic.{clash}
+use Rattle.std.specs.Prelude.{Ok, Err}
+use Rattle.network.specs.Answer.{Answer, Done}
 use Rattle.network.specs.declared.Session.{Session}
 use Rattle.network.specs.declared.Refusal.{Refusal}
-use Rattle.network.specs.declared.Answer.{Answer}
-use Rattle.network.specs.declared.Answer.TheVariants.{Done, Refused}
 use Rattle.network.specs.Net.{Net, Replacement}
 use Rattle.network.specs.Refusals.{values_of, said}
 use Rattle.network.specs.Tests.{member, first}
@@ -25,24 +25,24 @@ use Rattle.promises.proofs.Tested.{words-by}
 
 -- the number that a call returns is the first that its answer says, and what it names is the rest
 pub number-said : (a : Answer) → number_for a ≡ get_or (said a) 0 0
-number-said Done = refl
-number-said (Refused r) = refl
+number-said (Ok _) = refl
+number-said (Err r) = refl
 
 pub values-said : (a : Answer) → values_for a [] ≡ drop 1 (said a)
-values-said Done = refl
-values-said (Refused r) = refl
+values-said (Ok _) = refl
+values-said (Err r) = refl
 
 -- 0 is no refusal's number
 pub zero-done : (a : Answer) → number_for a ≡ 0 → a ≡ Done
-zero-done Done e = refl
-zero-done (Refused r) e = let l = told-by (λ x. 1 ≤ x.0) (λ n a. a) (λ t. omega arith) (λ x i. omega arith) r in absurd (omega arith)
+zero-done (Ok _) e = refl
+zero-done (Err r) e = let l = told-by (λ x. 1 ≤ x.0) (λ n a. a) (λ t. omega arith) (λ x i. omega arith) r in absurd (omega arith)
 
 -- it names at most k values
 abbrev pub NamesMost : ℕ → Answer → Type 0
 NamesMost k a = length (values_for a []) ≤ k
 
 -- so there is room for what it names
-pub named-room : {a : Answer} {r : Refusal} {k : ℕ} (out : List ℕ) → a ≡ Refused r → NamesMost k a → k ≤ length out → length (values_of r) ≤ length out
+pub named-room : {a : Answer} {r : Refusal} {k : ℕ} (out : List ℕ) → a ≡ Err r → NamesMost k a → k ≤ length out → length (values_of r) ≤ length out
 named-room out e h l = let n = rw e at h in omega arith
 
 module _ (k : ℕ) where

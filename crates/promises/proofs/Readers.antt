@@ -7,15 +7,14 @@ use Prim.Native.Nat.{ℕ, ◌≤◌}
 use native.Mathlib.Omega.{arith}
 use lib.ListN.{length}
 use Rattle.bits.specs.Lists.{overwritten}
+use Rattle.std.specs.Prelude.{Result, Ok, Err}
+use Rattle.network.specs.Answer.{Answer, Done}
 use Rattle.network.specs.declared.Session.{Session}
-use Rattle.network.specs.declared.Loaded.{Loaded}
 use Rattle.network.specs.declared.Refusal.{Refusal}
-use Rattle.network.specs.declared.Answer.{Answer}
-use Rattle.network.specs.declared.Answer.TheVariants.{Done, Refused}
 use Rattle.network.specs.Refusals.{number_of}
 use Rattle.network.specs.Tests.{member}
 use Rattle.network.specs.Valid.{Sized}
-use Rattle.network.specs.Load.{load_done, load_refused, load_of}
+use Rattle.network.specs.Load.{load_of}
 use Rattle.network.specs.Calls.{room_test}
 use Rattle.network.proofs.Reached.{done-whole, loaded-sized}
 use Rattle.blif.specs.Read.{read_blif_of}
@@ -29,8 +28,8 @@ use Rattle.promises.specs.Boundary.{values_for, read_answer, read_call}
 use Rattle.promises.proofs.Names.{names-first, names-room, nameless}
 use Rattle.promises.proofs.Leaves.{Leaves, refused, done}
 
-module _ (l : Loaded) (session : List ℕ) {a : Answer} (e : a ≡ read_answer l session) where
-  pub read-refused : {r : Refusal} {k : ℕ} → values_for l.answer [] ≡ [] → a ≡ Refused r → k ≡ number_of r → Leaves (read_call l session) k session []
+module _ (l : Result Session Refusal) (session : List ℕ) {a : Answer} (e : a ≡ read_answer l session) where
+  pub read-refused : {r : Refusal} {k : ℕ} → values_for l.answer [] ≡ [] → a ≡ Err r → k ≡ number_of r → Leaves (read_call l session) k session []
   read-refused none h p =
       let n = names-first 0 (l.answer ∷ room_test session_words session ∷ []) (omega (arith, ap length none), (names-room 0 session_words session, tt)) in
       refused [] (packed_of l.session) session [] (sym e ∙ h) n p
@@ -39,25 +38,25 @@ module _ (l : Loaded) (session : List ℕ) {a : Answer} (e : a ≡ read_answer l
   read_done h p = done [] (packed_of l.session) session [] (sym e ∙ h) p refl
 
 -- there is room for a session that has its lengths
-pub read-room : (l : Loaded) (session : List ℕ) → Sized l.session → session_words ≤ length session → length (packed_of l.session) ≤ length session
+pub read-room : (l : Result Session Refusal) (session : List ℕ) → Sized l.session → session_words ≤ length session → length (packed_of l.session) ≤ length session
 read-room l session z h = let n = packed-length l.session z in omega arith
 
 -- ## The two readers
 
 -- what one of them reads: its refusals, and the lengths of its session
-pub record Reader (l : Loaded) (ns : List ℕ) : Type 0 where
+pub record Reader (l : Result Session Refusal) (ns : List ℕ) : Type 0 where
   pub session : Session
-  pub ends : demands.Ends l (load_done session) ns load_refused
+  pub ends : demands.Ends l (Ok session) ns Err
   pub none : values_for l.answer [] ≡ []
   pub sized : l.answer ≡ Done → Sized l.session
 
-reader : (l : Loaded) (ns : List ℕ) (s : Session) → demands.Ends l (load_done s) ns load_refused → member 13 ns ≡ false → member 14 ns ≡ false
-    → (l ≡ load_done l.session → Sized l.session) → Reader l ns
+reader : (l : Result Session Refusal) (ns : List ℕ) (s : Session) → demands.Ends l (Ok s) ns Err → member 13 ns ≡ false → member 14 ns ≡ false
+    → (l ≡ Ok l.session → Sized l.session) → Reader l ns
 reader l ns s ends no13 no14 sized = record {
   session = s;
   ends = ends;
-  none = ⊎_elim (ap (λ (x : Loaded). values_for x.answer []))
-      (λ f. ap (λ (x : Loaded). values_for x.answer []) f.2 ∙ nameless ns no13 no14 f.0 f.1) ends;
+  none = ⊎_elim (ap (λ (x : Result Session Refusal). values_for x.answer []))
+      (λ f. ap (λ (x : Result Session Refusal). values_for x.answer []) f.2 ∙ nameless ns no13 no14 f.0 f.1) ends;
   sized = λ e. sized (done-whole l e);
 }
 

@@ -8,10 +8,10 @@ use native.Mathlib.Omega.{arith}
 use lib.Dec.{ltb}
 use lib.ListN.{length, take}
 use borrow.Author.Tests.{le-ltb, ltb-false}
+use Rattle.std.specs.Prelude.{Err}
+use Rattle.network.specs.Answer.{Answer, Done}
 use Rattle.network.specs.declared.Session.{Session}
 use Rattle.network.specs.declared.Refusal.TheVariants.{BufferTooShort, InvalidState}
-use Rattle.network.specs.declared.Answer.{Answer}
-use Rattle.network.specs.declared.Answer.TheVariants.{Done, Refused}
 use Rattle.network.specs.Bounds.{most_gates, most_outputs, fanin_places, excluded_words}
 use Rattle.network.specs.Tests.{first}
 use Rattle.network.specs.State.{state_test}
@@ -32,7 +32,7 @@ room-e needed buffer e = ltb-false (length buffer) needed (passed (ltb (length b
 -- ## The tests of a call
 
 -- the words of a session: 9, 10
-pub words-by : (Q : Answer → Type 0) (ws : List ℕ) → Q (Refused BufferTooShort) → Q (Refused InvalidState) → (words_test ws ≡ Done → Q Done) → Q (words_test ws)
+pub words-by : (Q : Answer → Type 0) (ws : List ℕ) → Q (Err BufferTooShort) → Q (Err InvalidState) → (words_test ws ≡ Done → Q Done) → Q (words_test ws)
 unfolding words_test bytes_test
 words-by Q ws short bad q =
     let s = session_in ws in
@@ -43,7 +43,7 @@ words-by Q ws short bad q =
     (λ v. q (clear-i (room_test session_words ws ∷ bytes_test ws ∷ state_test s ∷ []) (room-i session_words ws l, (rw b, (v, tt)))))))
 
 -- a call on a session: its words, the room of `out`, then its own tests
-pub session-by : (Q : Answer → Type 0) (ws out : List ℕ) (w : Work) → Q (Refused BufferTooShort) → Q (Refused InvalidState)
+pub session-by : (Q : Answer → Type 0) (ws out : List ℕ) (w : Work) → Q (Err BufferTooShort) → Q (Err InvalidState)
     → (words_test ws ≡ Done → w.room ≤ length out → Q (first w.tests)) → Q (first (words_test ws ∷ room_test w.room out ∷ w.tests))
 session-by Q ws out w short bad q =
     words-by (Before Q (first (room_test w.room out ∷ w.tests))) ws short bad (λ v. room_by (Before Q (first w.tests)) w.room out short (q v))
@@ -57,7 +57,7 @@ module _ (Q : Answer → Type 0) (new buffer : List ℕ) where
   abbrev pub Filling : Answer → Type 0
   Filling a = Q (filled a new buffer).answer
 
-  pub fill-by : (s : Session) → Q (Refused InvalidState) → Q (Refused BufferTooShort) → (length new ≤ length buffer → Q Done) → Q (fill_answer s new buffer)
+  pub fill-by : (s : Session) → Q (Err InvalidState) → Q (Err BufferTooShort) → (length new ≤ length buffer → Q Done) → Q (fill_answer s new buffer)
   fill-by s bad short q =
       state-by (Before Filling (first (room_test (length new) buffer ∷ []))) s bad (λ v. room_by (Before Filling Done) (length new) buffer short q)
 

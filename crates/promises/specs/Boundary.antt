@@ -3,11 +3,11 @@
 use Rattle.std.specs.Prelude.{List, [], ◌∷◌, ◌++◌, ℕ, zero, suc, ◌+◌, ◌*◌, length}
 use Rattle.bits.specs.Range.{places}
 use Rattle.bits.specs.Lists.{overwritten}
+use Rattle.std.specs.Prelude.{Result, Ok, Err}
+use Rattle.network.specs.Answer.{Answer}
+use Rattle.network.specs.declared.Refusal.{Refusal}
 use Rattle.network.specs.declared.Session.{Session}
 use Rattle.network.specs.declared.Tables.{Tables}
-use Rattle.network.specs.declared.Loaded.{Loaded}
-use Rattle.network.specs.declared.Answer.{Answer}
-use Rattle.network.specs.declared.Answer.TheVariants.{Done, Refused}
 use Rattle.network.specs.Net.{Replacement, signals, new_tables}
 use Rattle.network.specs.Compatible.{compatible_count}
 use Rattle.network.specs.Flat.{loaded_net}
@@ -25,13 +25,13 @@ use Rattle.packed.specs.Packed.{packed_of, session_words, session_in, words_test
 
 -- 01's number, or 0
 abbrev pub number_for : Answer → ℕ
-number_for Done = 0
-number_for (Refused r) = number_of r
+number_for (Ok _) = 0
+number_for (Err r) = number_of r
 
 -- what stands at the start of `out`: what the call gives, or what its refusal names
 abbrev pub values_for : Answer → List ℕ → List ℕ
-values_for Done given = given
-values_for (Refused r) given = values_of r
+values_for (Ok _) given = given
+values_for (Err r) given = values_of r
 
 -- [] where no buffer or no `out` is lent
 pub record Left : Type 0 where
@@ -50,10 +50,10 @@ left a given new buffer out = record {
 -- ## A file or a BLIF text
 
 -- what was read: its refusals come before the session's room
-abbrev pub read_answer : Loaded → (session : List ℕ) → Answer
+abbrev pub read_answer : Result Session Refusal → (session : List ℕ) → Answer
 read_answer l session = first (l.answer ∷ room_test session_words session ∷ [])
 
-abbrev pub read_call : Loaded → (session : List ℕ) → Left
+abbrev pub read_call : Result Session Refusal → (session : List ℕ) → Left
 read_call l session = left (read_answer l session) [] (packed_of l.session) session []
 
 unfoldable pub load_call : (file session : List ℕ) → Left

@@ -4,11 +4,10 @@ use Rattle.std.specs.Prelude.{◌≡◌, ◌⊎◌, ◌↔◌, ◌≢◌, true, 
 use Rattle.bits.specs.Range.{places}
 use Rattle.bits.specs.Lists.{overwritten}
 use Rattle.bits.specs.Bit.{bit}
+use Rattle.std.specs.Prelude.{Result, Ok}
+use Rattle.network.specs.Answer.{Answer, Done}
 use Rattle.network.specs.declared.Session.{Session}
-use Rattle.network.specs.declared.Loaded.{Loaded}
 use Rattle.network.specs.declared.Refusal.{Refusal}
-use Rattle.network.specs.declared.Answer.{Answer}
-use Rattle.network.specs.declared.Answer.TheVariants.{Done}
 use Rattle.network.specs.Net.{Net, arity, is_gate, gate as gate_of, patterns, excluded_for, output, Replacement}
 use Rattle.network.specs.DontCares.{sdc, NeverGiven}
 use Rattle.network.specs.Compatible.{compatible_count, compatible_total}
@@ -16,7 +15,7 @@ use Rattle.network.specs.Flat.{loaded_net, current_net}
 use Rattle.network.specs.Refusals.{number_of, said}
 use Rattle.network.specs.Tests.{member, first}
 use Rattle.network.specs.State.{arity_of}
-use Rattle.network.specs.Load.{load_of, load_done}
+use Rattle.network.specs.Load.{load_of}
 use Rattle.network.specs.Write.{bytes_of}
 use Rattle.network.specs.Calls.{pairs, gate_tables, stored, room_test, set_words}
 use Rattle.network.specs.Lists.{Sound, FirstFault}
@@ -213,8 +212,8 @@ pub record Demand3Calls (ws : List ℕ) (s : Session) (list : List Asked) : Type
       → words_after ws (before ++ b ∷ a ∷ behind) ≡ words_after ws list
 
 -- the words that a call left hold the session that it read, and the demand holds of them
-abbrev pub Demand3From : Loaded → Left → List Asked → Type 0
-Demand3From l c list = let s = l.session in (l ≡ load_done s) × Holds c.buffer s × Demand3 s (roomy list) × Demand3Calls c.buffer s list
+abbrev pub Demand3From : Result Session Refusal → Left → List Asked → Type 0
+Demand3From l c list = let s = l.session in (l ≡ Ok s) × Holds c.buffer s × Demand3 s (roomy list) × Demand3Calls c.buffer s list
 
 -- of every file that loads and every BLIF text that reads, into every buffer
 pub record Demand3OfCalls : Type 0 where
