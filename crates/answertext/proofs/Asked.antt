@@ -8,7 +8,7 @@ use lib.ListN.{length}
 use Rattle.buffer.specs.Laid.{Room, Laid}
 use Rattle.buffer.proofs.Laying.{laid-length}
 use Rattle.network.specs.declared.Session.{Session}
-use Rattle.network.specs.Load.{load_of}
+use Rattle.network.specs.Load.{session_of, load_of}
 use Rattle.ordertext.specs.declared.Order.{Order}
 use Rattle.ordertext.specs.Order.{most_pairs, Pair, order_of, pairs_of}
 use Rattle.ordertext.specs.Reads.{count_in, pairs_given, Reads}
@@ -34,7 +34,7 @@ module _ (file text : List ℕ) (o : Order) (a : Asks text o) (j : Judged) (e : 
   reply-is : j.reply ≡ reply_of file ps
   reply-is = ap (λ (j : Judged). j.reply) e ∙ (given file text o a.reads).reply
 
-  session-is : j.session ≡ (load_of file).session
+  session-is : j.session ≡ (session_of (load_of file))
   unfolding judged_of
   session-is = ap (λ (j : Judged). j.session) e
 

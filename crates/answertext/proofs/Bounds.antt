@@ -8,14 +8,14 @@ use native.Mathlib.Omega.{arith}
 use lib.Pow.{pow_mono}
 use lib.ListN.{length, get_or, length-map}
 use Rattle.bits.specs.Bounds.{most_inputs}
+use Rattle.std.specs.Prelude.{Ok, Err}
+use Rattle.network.specs.Answer.{Answer, Done, answer_of}
 use Rattle.network.specs.declared.Session.{Session}
 use Rattle.network.specs.declared.Refusal.{Refusal}
-use Rattle.network.specs.declared.Answer.{Answer}
-use Rattle.network.specs.declared.Answer.TheVariants.{Done, Refused}
 use Rattle.network.specs.Bounds.{most_entries}
 use Rattle.network.specs.Net.{Net, is_gate, entries, patterns, Replacement}
 use Rattle.network.specs.Flat.{net_of, loaded_net}
-use Rattle.network.specs.Load.{load_of, load_done}
+use Rattle.network.specs.Load.{session_of, load_of}
 use Rattle.network.specs.Sessions.{answer_by}
 use Rattle.network.proofs.Fresh.{Fresh}
 use Rattle.network.proofs.Valid.{net-ok}
@@ -81,18 +81,18 @@ module _ (s : Session) (fresh : Fresh s) where
 
 module _ (file : List ℕ) (ps : List Pair) where
   abbrev s : Session
-  s = (load_of file).session
+  s = (session_of (load_of file))
 
-  by-load : (a : Answer) → (load_of file).answer ≡ a → Prints s ps (reply_of file ps)
+  by-load : (a : Answer) → answer_of (load_of file) ≡ a → Prints s ps (reply_of file ps)
   unfolding reply_of
-  by-load (Refused r) e = rw e tt
-  by-load Done e = go (pairs-only (loaded_net s) [] (replacements ps))
+  by-load (Err r) e = rw e tt
+  by-load (Ok _) e = go (pairs-only (loaded_net s) [] (replacements ps))
     where
-      loads : load_of file ≡ load_done s
-      loads = ap (λ (a : Answer). record { answer = a; session = (load_of file).session }) e
+      loads : load_of file ≡ Ok s
+      loads = ap (λ (a : Answer). record { answer = a; session = (session_of (load_of file)) }) e
 
       go : (pairs_test (loaded_net s) [] (replacements ps) ≡ Done)
-          ⊎ ((f : Refusal) × (pairs_test (loaded_net s) [] (replacements ps) ≡ Refused f) × OfPair f × (refused_at (loaded_net s) [] (replacements ps) < length (replacements ps)))
+          ⊎ ((f : Refusal) × (pairs_test (loaded_net s) [] (replacements ps) ≡ Err f) × OfPair f × (refused_at (loaded_net s) [] (replacements ps) < length (replacements ps)))
           → Prints s ps (reply_of file ps)
       go (inl t) = sound-prints s (loaded-fresh file s loads) ps (sound-e (loaded_net s) [] (replacements ps) t) (reply_of file ps) (comes file s ps loads)
       go (inr f) =
@@ -100,7 +100,7 @@ module _ (file : List ℕ) (ps : List Pair) where
           (let m = length-map ps replacement_of in omega (arith, f.3))
 
 pub prints-of : PrintsOf
-prints-of file ps = by-load file ps (load_of file).answer refl
+prints-of file ps = by-load file ps answer_of (load_of file) refl
 
 -- ## Its room
 

@@ -9,11 +9,10 @@ use lib.ListN.{length, get_or, take, drop, length-append, drop_of_length-le}
 use lib.Seq.{drop-cons, get_or-take}
 use borrow.Author.Tests.{eq-eqb, ne_eqb}
 use Rattle.bits.specs.Bit.{bit}
+use Rattle.std.specs.Prelude.{Err}
+use Rattle.network.specs.Answer.{Answer, Done}
 use Rattle.network.specs.declared.Session.{Session}
 use Rattle.network.specs.declared.Refusal.{Refusal}
-use Rattle.network.specs.declared.Exchanged.{Exchanged}
-use Rattle.network.specs.declared.Answer.{Answer}
-use Rattle.network.specs.declared.Answer.TheVariants.{Done, Refused}
 use Rattle.network.specs.Net.{Replacement}
 use Rattle.network.specs.Flat.{loaded_net}
 use Rattle.network.specs.Refusals.{number_of, values_of}
@@ -158,10 +157,10 @@ module _ (k : ℕ) (vs : List ℕ) {told : List ℕ} (e : take k vs ≡ told) wh
 abbrev pub closed_pieces : (t : ℕ) → List Text
 closed_pieces t = (ascii ": entry " ++ decimal t) ∷ ascii " is closed\n" ∷ []
 
-pub closed-pieces : (a : Answer) (r : Refusal) (t : ℕ) → a ≡ Refused r → t ≡ get_or (values_of r) 0 0 → open_text a ≡ joined (closed_pieces t)
+pub closed-pieces : (a : Answer) (r : Refusal) (t : ℕ) → a ≡ Err r → t ≡ get_or (values_of r) 0 0 → open_text a ≡ joined (closed_pieces t)
 closed-pieces a r t e h = rw (e, h) (two (ascii ": entry " ++ decimal (get_or (values_of r) 0 0)) (ascii " is closed\n"))
 
-pub entry-few : (a : Answer) (r : Refusal) (t : ℕ) → a ≡ Refused r → t ≡ get_or (values_of r) 0 0 → entry_of a < 10000 → t < 10000
+pub entry-few : (a : Answer) (r : Refusal) (t : ℕ) → a ≡ Err r → t ≡ get_or (values_of r) 0 0 → entry_of a < 10000 → t < 10000
 entry-few a r t e h l = rw h (rw e at l)
 
 abbrev pub pair_pieces : (name : Text) (c old table : ℕ) → Answer → List Text
@@ -172,7 +171,7 @@ pair_row a b c d e f g = simp (append_assoc, append-nil)
 
 answer-in : (a : Answer) (s : Session) (r : Replacement) → (exchanged a s r).answer ≡ a
 answer-in Done s r = refl
-answer-in (Refused f) s r = refl
+answer-in (Err f) s r = refl
 
 pub exchange-answer : (s : Session) (r : Replacement) (x : Exchanged) → x ≡ exchange_of s r → x.answer ≡ exchange_answer s r
 unfolding exchange_of

@@ -1,7 +1,7 @@
 -- The answer to an order that was read, on a board's file. Assumes nothing.
 use Rattle.std.specs.Prelude.{◌≡◌, List, ℕ, ◌≤◌, length}
 use Rattle.buffer.specs.Laid.{Laid}
-use Rattle.network.specs.Load.{load_of}
+use Rattle.network.specs.Load.{session_of, load_of}
 use Rattle.ordertext.specs.declared.Order.{Order}
 use Rattle.ordertext.specs.Order.{most_order_bytes, Pair}
 use Rattle.ordertext.specs.Reads.{count_in, Reads}
@@ -20,4 +20,4 @@ pub record Answers (file : List ℕ) (ps : List Pair) (before after : List ℕ) 
   pub laid : Laid before 0 (answer_text file ps) after r.size
   pub within : r.size ≤ length after
   pub reply : r.reply ≡ reply_of file ps
-  pub session : r.session ≡ (load_of file).session
+  pub session : r.session ≡ (session_of (load_of file))

@@ -1,13 +1,13 @@
 -- What the code that prints is given. Assumes nothing.
 use Rattle.std.specs.Prelude.{List, ℕ, ◌+◌, ◌<◌, ◌≤◌, length, get_or}
 use Rattle.bits.specs.Bounds.{most_inputs}
+use Rattle.std.specs.Prelude.{Ok, Err}
+use Rattle.network.specs.Answer.{Answer}
 use Rattle.network.specs.declared.Session.{Session}
-use Rattle.network.specs.declared.Answer.{Answer}
-use Rattle.network.specs.declared.Answer.TheVariants.{Done, Refused}
 use Rattle.network.specs.Bounds.{most_gates}
 use Rattle.network.specs.Net.{Replacement}
 use Rattle.network.specs.Refusals.{values_of}
-use Rattle.network.specs.Load.{load_of}
+use Rattle.network.specs.Load.{session_of, load_of}
 use Rattle.network.specs.Calls.{exchange_answer}
 use Rattle.buffer.specs.Laid.{Room}
 use Rattle.text.specs.Words.{Text}
@@ -20,8 +20,8 @@ use Rattle.desk.specs.Answer.{no_pair, answer_text}
 
 -- the entry that an exchange's answer names
 abbrev pub entry_of : Answer → ℕ
-entry_of Done = 0
-entry_of (Refused r) = get_or (values_of r) 0 0
+entry_of (Ok _) = 0
+entry_of (Err r) = get_or (values_of r) 0 0
 
 -- a pair that can have a line: its gate has a place in the arrays, and 13's entry at most four digits
 pub record Shown (s : Session) (r : Replacement) : Type 0 where
@@ -43,7 +43,7 @@ Prints s ps (FileRefused r) = Unit {0}
 
 -- every reply that comes has these bounds
 abbrev pub PrintsOf : Type 0
-PrintsOf = (file : List ℕ) (ps : List Pair) → Prints (load_of file).session ps (reply_of file ps)
+PrintsOf = (file : List ℕ) (ps : List Pair) → Prints (session_of (load_of file)) ps (reply_of file ps)
 
 -- the answer to an order has room in most_answer_bytes
 abbrev pub RoomOf : Type 0

@@ -16,7 +16,7 @@ ghost use Rattle.answertext.specs.Prints.{entry_of, Shown, AllShown, Prints};
 ghost use Rattle.answertext.specs.Answers.{Asks, Answers};
 
 use desk::Reply;
-use network::{Answer, Refusal, Session};
+use network::{Refusal, Session};
 use ordertext::Order;
 
 // Each function that puts bytes does so from place at on, or from the start, and returns the place behind them.
@@ -147,11 +147,11 @@ fn first_value(r: Refusal) -> u64
 }
 
 // What would be answered to an exchange, at the end of a pair's line.
-fn put_open(buf: &mut [u8], at: usize, a: Answer) -> usize
+fn put_open(buf: &mut [u8], at: usize, a: Result<(), Refusal>) -> usize
     requires { (entry_of a < 10000) × Room buf.old at (open_text a) }
     ensures { Laid buf.old at (open_text a) buf.new result }
 {
-    if let Answer::Refused(r) = a {
+    if let Err(r) = a {
         let t = first_value(r);
         let b = put_numbered(buf, at, b": entry ", t);
         return buffer::copy(buf, b, b" is closed\n");

@@ -3,14 +3,14 @@
 
 ghost use Rattle.std.specs.Prelude.{◌≡◌, [], ◌∷◌, ◌*◌, ◌≤◌, ltb, length};
 ghost use Rattle.bits.specs.Lists.{overwritten};
-ghost use Rattle.network.specs.declared.Answer.TheVariants.{Done};
+ghost use Rattle.network.specs.Answer.{Done, answer_of};
 ghost use Rattle.network.specs.declared.Refusal.TheVariants.{BufferTooShort};
 ghost use Rattle.network.specs.Refusals.{number_of, values_of};
-ghost use Rattle.network.specs.Tests.{refuse_if, first};
+ghost use Rattle.network.specs.Tests.{refuse_if};
 ghost use Rattle.network.specs.State.{state_fault};
-ghost use Rattle.promises.specs.Boundary.{values_for, read_call, all_table_words, tables_room};
+ghost use Rattle.promises.specs.Boundary.{values_for, number_for, read_call, all_table_words, tables_room};
 
-use network::{Answer, Loaded, Refusal, Session};
+use network::{Refusal, Session};
 
 // Values at the start of `out`; the words behind them stay.
 pub fn give(values: &[u64], out: &mut [u64])
@@ -44,31 +44,42 @@ pub fn tell_refusal(r: Refusal, out: &mut [u64]) -> u64
     t.0
 }
 
-// What was refused before, then 9 where fewer places are lent than needed.
-pub fn room(a: Answer, lent: usize, needed: usize) -> Answer
-    ensures { result ≡ first (a ∷ refuse_if (ltb lent needed) BufferTooShort ∷ []) }
+// The number that a call returns: 0, or its refusal's.
+pub fn number(a: Result<(), Refusal>) -> u64
+    ensures { result ≡ number_for a }
 {
-    if let Answer::Refused(_) = a {
-        return a;
+    match a {
+        Ok(()) => 0,
+        Err(r) => network::number_of(r),
     }
+}
+
+// 9 where fewer places are lent than needed.
+pub fn room(lent: usize, needed: usize) -> Result<(), Refusal>
+    ensures { result ≡ refuse_if (ltb lent needed) BufferTooShort }
+{
     if lent < needed {
-        return Answer::Refused(Refusal::BufferTooShort);
+        return Err(Refusal::BufferTooShort);
     }
-    Answer::Done
+    Ok(())
+}
+
+fn try_put_read(l: Result<Session, Refusal>, session: &mut [u64]) -> Result<(), Refusal>
+    requires { values_for (answer_of l) [] ≡ [] }
+    ensures { record { number = number_for result; buffer = session.new; out = [] } ≡ read_call l session.old }
+{
+    let s = l?;
+    room(session.len(), packed::SESSION_WORDS)?;
+    packed::pack(s, session);
+    Ok(())
 }
 
 // What was read into the words of a session, where no refusal of it names a value.
-pub fn put_read(l: Loaded, session: &mut [u64]) -> u64
-    requires { values_for l.answer [] ≡ [] }
+pub fn put_read(l: Result<Session, Refusal>, session: &mut [u64]) -> u64
+    requires { values_for (answer_of l) [] ≡ [] }
     ensures { record { number = result; buffer = session.new; out = [] } ≡ read_call l session.old }
 {
-    let tested = l.answer;
-    let a = room(tested, session.len(), packed::SESSION_WORDS);
-    if let Answer::Refused(r) = a {
-        return network::number_of(r);
-    }
-    packed::pack(l.session, session);
-    0
+    number(try_put_read(l, session))
 }
 
 // The words of a gate's tables: SDC, which takes two, CDC, full and open.

@@ -9,7 +9,7 @@ use borrow.Author.Tests.{le-ltb}
 use Rattle.bits.specs.Lists.{overwritten}
 use Rattle.bits.proofs.Logic.{clash}
 use Rattle.std.specs.Prelude.{Ok, Err}
-use Rattle.network.specs.Answer.{Answer, Done, giving, onward}
+use Rattle.network.specs.Answer.{Answer, Done, answer_of, giving, onward}
 use Rattle.network.specs.declared.Session.{Session}
 use Rattle.network.specs.Net.{Net, is_gate, patterns, Replacement}
 use Rattle.network.specs.Flat.{loaded_net}
@@ -17,7 +17,7 @@ use Rattle.network.specs.Valid.{Shaped}
 use Rattle.network.specs.Refusals.{said}
 use Rattle.network.specs.Tests.{first}
 use Rattle.network.specs.State.{state_test}
-use Rattle.network.specs.Load.{read_of, opened, load_of}
+use Rattle.network.specs.Load.{session_of, read_of, opened, load_of}
 use Rattle.network.specs.Write.{bytes_of}
 use Rattle.network.specs.Calls.{gate_test, harm_test, exchange_tests, held_closed, exchange_answer, exchanged, exchange_of, lengths_test, pairs, pairs_test, verdict_of, verdict_on, gate_tables, tables_of, Filled, room_test, filled, set_words, pattern_sets_of, write_of, counts_of, with_length, written_of}
 use Rattle.network.specs.Sessions.{after, NoHarm, FirstHarm}
@@ -71,7 +71,7 @@ module _ (s : Session) (new buffer : List ℕ) where
 pub demand1 : Demand1
 unfolding load_of tables_of pattern_sets_of exchange_of exchange_answer verdict_of write_of written_of counts_of read_blif_of write_blif_of
 demand1 = record {
-  load = λ bytes. ends file (λ a. onward a (Ok (opened (read_of bytes).session))) (read_of bytes).answer (read-among bytes);
+  load = λ bytes. ends file (λ a. onward a (Ok (opened (session_of (read_of bytes))))) answer_of (read_of bytes) (read-among bytes);
   tables = λ s g. let ns : List ℕ = 10 ∷ 11 ∷ [] in
       tests-end ns (λ a. giving a (gate_tables s g)) (state_test s ∷ gate_test (loaded_net s) g ∷ [])
       (state-by (Among ns) s refl (λ v. tt), (gate-by (Among ns) (loaded_net s) g refl (λ w. tt), tt));
@@ -91,7 +91,7 @@ demand1 = record {
       (state-by Q s refl (λ v. tt), (lengths-by Q gs ts refl (λ e. tt), (pairs-by Q N [] rs refl refl refl tt, (harm-by Q N M (λ x i. refl) tt, tt))));
   write = λ s buffer. fills-end s (bytes_of s) buffer (with_length (length (bytes_of s)));
   read_blif = λ text. let ns : List ℕ = 3 ∷ 17 ∷ 18 ∷ [] in
-      ends ns (λ a. onward a (Ok (opened (read_blif text).session))) (read_blif text).answer (read_by (Among ns) tt refl refl refl text);
+      ends ns (λ a. onward a (Ok (opened (session_of (read_blif text))))) answer_of (read_blif text) (read_by (Among ns) tt refl refl refl text);
   write_blif = λ s buffer. let ns : List ℕ = 3 ∷ 9 ∷ 10 ∷ [] in
       let new = blif_text s in
       tests-end ns (λ a. with_length (length new) (filled a new buffer)) (state_test s ∷ copies_test s ∷ room_test (length new) buffer ∷ [])

@@ -9,7 +9,7 @@ use lib.ListN.{length, get_or, take, drop}
 use Rattle.bits.specs.Bounds.{most_inputs}
 use Rattle.bits.specs.Range.{up_from}
 use Rattle.std.specs.Prelude.{Result, Ok, Err}
-use Rattle.network.specs.Answer.{Answer, Done, onward}
+use Rattle.network.specs.Answer.{Answer, Done, answer_of, onward}
 use Rattle.network.specs.declared.Session.{Session}
 use Rattle.network.specs.declared.Refusal.{Refusal}
 use Rattle.network.specs.declared.Refusal.TheVariants.{Truncated, UnexpectedMark, OutOfBounds, FaninNotEarlier, FaninRepeated, BitPastEnd, NotASignal, TrailingBytes}
@@ -89,11 +89,11 @@ output-among signals x = if-among file (not (ltb x signals)) NotASignal refl
 
 -- ## Record after record
 
-onward-among : (a : Answer) (l : Result Session Refusal) → Among file a → Among file l.answer → Among file (onward a l).answer
+onward-among : (a : Answer) (l : Result Session Refusal) → Among file a → Among file (answer_of l) → Among file (answer_of (onward a l))
 onward-among (Ok _) l p q = q
 onward-among (Err r) l p q = p
 
-outputs-among : (c i : ℕ) (t : Session) (rest : List ℕ) → Among file (read_outputs c i t rest).answer
+outputs-among : (c i : ℕ) (t : Session) (rest : List ℕ) → Among file answer_of (read_outputs c i t rest)
 unfolding read_outputs output_record
 outputs-among zero i t rest = onward-among (refuse_if (leb 1 (length rest)) TrailingBytes) _ (if-among file (leb 1 (length rest)) TrailingBytes refl) tt
 outputs-among (suc c) i t rest =
@@ -102,7 +102,7 @@ outputs-among (suc c) i t rest =
     (first-among file (output_tests (t.n + t.m) rest) (mark-among 0x4E4F rest, (length-among 3 rest, (output-among (t.n + t.m) x, tt))))
     (outputs-among c (i + 1) (with_output t i x) (drop 3 rest))
 
-gates-among : (c g : ℕ) (t : Session) (rest : List ℕ) → Among file (read_gates c g t rest).answer
+gates-among : (c g : ℕ) (t : Session) (rest : List ℕ) → Among file answer_of (read_gates c g t rest)
 unfolding read_gates gate_record
 gates-among zero g t rest = outputs-among t.p 0 t rest
 gates-among (suc c) g t rest =
@@ -118,21 +118,21 @@ gates-among (suc c) g t rest =
     ))
     (gates-among c (g + 1) (with_gate t g k (fanins_in rest) (table_in rest)) (drop f.bytes (after_fanins rest)))
 
-body-among : (t : Session) (rest : List ℕ) → Among file (read_body t rest).answer
+body-among : (t : Session) (rest : List ℕ) → Among file answer_of (read_body t rest)
 unfolding read_body excluded_record
 body-among t rest = go (is_excluded rest)
   where
     behind : Result Session Refusal
     behind = read_gates t.m 0 (with_excluded t (excluded_in t.n rest)) (drop (set_bytes t.n) (drop 2 rest))
 
-    go : (b : Bool) → Among file (cond b (onward (excluded_record t.n rest) behind) (read_gates t.m 0 t rest)).answer
+    go : (b : Bool) → Among file (answer_of (cond b (onward (excluded_record t.n rest) behind) (read_gates t.m 0 t rest)))
     go true =
         onward-among (excluded_record t.n rest) behind
         (first-among file (excluded_tests t.n rest) (length-among (set_bytes t.n) (drop 2 rest), (excluded-among t.n (excluded_in t.n rest), tt)))
         (gates-among t.m 0 (with_excluded t (excluded_in t.n rest)) (drop (set_bytes t.n) (drop 2 rest)))
     go false = gates-among t.m 0 t rest
 
-pub read-among : (bytes : List ℕ) → Among file (read_of bytes).answer
+pub read-among : (bytes : List ℕ) → Among file answer_of (read_of bytes)
 unfolding read_of header_record
 read-among bytes =
     let n = get_or bytes 2 0 in

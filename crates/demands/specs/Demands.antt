@@ -6,7 +6,7 @@ use Rattle.bits.specs.Range.{any}
 use Rattle.bits.specs.Bit.{bit, table_of}
 use Rattle.bits.specs.Lists.{Bytes, overwritten}
 use Rattle.std.specs.Prelude.{Ok, Err}
-use Rattle.network.specs.Answer.{Done}
+use Rattle.network.specs.Answer.{Done, given_or}
 use Rattle.network.specs.declared.Session.{Session}
 use Rattle.network.specs.declared.Refusal.{Refusal}
 use Rattle.network.specs.Net.{Net, arity, is_gate, gate, entries, patterns, excluded, entry_of, Replacement, replaced}
@@ -17,7 +17,7 @@ use Rattle.network.specs.Valid.{Shaped}
 use Rattle.network.specs.Refusals.{number_of, said}
 use Rattle.network.specs.Tests.{member}
 use Rattle.network.specs.State.{state_test}
-use Rattle.network.specs.Load.{read_of, opened, load_of}
+use Rattle.network.specs.Load.{session_of, read_of, opened, load_of}
 use Rattle.network.specs.Write.{bytes_of}
 use Rattle.network.specs.Calls.{stored, exchange_of, verdict_of, verdict_on, sdc_words, gate_tables, tables_of, set_words, pattern_sets_of, counts_of, written_of}
 use Rattle.network.specs.Lists.{Sound, PairExactOf, JudgedOf, FaultedOf, FewOf, ListedOf, UnequalOf, LoneOf}
@@ -41,7 +41,7 @@ Ends left done ns refused = (left ≡ done) ⊎ ((r : Refusal) × Numbered ns r 
 
 pub record Demand1 : Type 0 where
   -- a loaded network, its open tables with it; or no state
-  pub load : (bytes : List ℕ) → Ends (load_of bytes) (Ok (opened (read_of bytes).session)) (1 ∷ 2 ∷ 3 ∷ 4 ∷ 5 ∷ 6 ∷ 7 ∷ 8 ∷ []) Err
+  pub load : (bytes : List ℕ) → Ends (load_of bytes) (Ok (opened (session_of (read_of bytes)))) (1 ∷ 2 ∷ 3 ∷ 4 ∷ 5 ∷ 6 ∷ 7 ∷ 8 ∷ []) Err
   -- a gate's tables
   pub tables : (s : Session) (g : ℕ) → Ends (tables_of s g) (Ok (gate_tables s g)) (10 ∷ 11 ∷ []) Err
   -- filled pattern words; a refusal leaves the buffer
@@ -60,7 +60,7 @@ pub record Demand1 : Type 0 where
   -- the number of patterns in H of each gate
   pub counts : (s : Session) → Ends (counts_of s) (counts_for Done s) (10 ∷ []) (λ r. counts_for (Err r) s)
   -- request Four: the network of a BLIF text, its open tables with it; or no state
-  pub read_blif : (text : List ℕ) → Ends (read_blif_of text) (Ok (opened (read_blif text).session)) (3 ∷ 17 ∷ 18 ∷ []) Err
+  pub read_blif : (text : List ℕ) → Ends (read_blif_of text) (Ok (opened (session_of (read_blif text)))) (3 ∷ 17 ∷ 18 ∷ []) Err
   -- a written text, with its length; a refusal leaves the buffer
   pub write_blif : (s : Session) (buffer : List ℕ)
       → Ends (write_blif_of s buffer) (record { answer = Ok (length (blif_text s)); buffer = overwritten (blif_text s) buffer }) (3 ∷ 9 ∷ 10 ∷ [])
@@ -107,7 +107,7 @@ pub record Demand2 : Type 0 where
   pub pattern_sets : (s : Session) (buffer : List ℕ) → state_test s ≡ Done → length (set_words s s.m) ≤ length buffer
       → pattern_sets_of s buffer ≡ record { answer = Done; buffer = overwritten (set_words s s.m) buffer }
   -- and the number of patterns in H of each gate
-  pub counts : (s : Session) (g : ℕ) → state_test s ≡ Done → g < s.m → get_or (counts_of s).counts g 0 ≡ compatible_count (loaded_net s) (s.n + g)
+  pub counts : (s : Session) (g : ℕ) → state_test s ≡ Done → g < s.m → get_or (given_or [] (counts_of s)) g 0 ≡ compatible_count (loaded_net s) (s.n + g)
   -- request Three: sixteen bits hold the count of each gate, and of all gates together
   pub counts_fit : (s : Session) → state_test s ≡ Done
       → ((g : ℕ) → compatible_count (loaded_net s) g ≤ 1024) × (compatible_total (loaded_net s) s.m ≤ 40960)

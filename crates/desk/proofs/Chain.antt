@@ -7,11 +7,12 @@ use lib.ListN.{length}
 use borrow.Author.Tests.{not-false}
 use Rattle.bits.proofs.Ranges.{by_cases}
 use Rattle.bits.proofs.Logic.{beq-e}
+use Rattle.std.specs.Prelude.{Ok}
 use Rattle.network.specs.declared.Session.{Session}
 use Rattle.network.specs.Net.{Gate, Net, patterns, excluded, excluded_for, output, Replacement, with_gates, replace_one, replaced}
 use Rattle.network.specs.DontCares.{harms}
 use Rattle.network.specs.Flat.{loaded_net}
-use Rattle.network.specs.Load.{load_of, load_done}
+use Rattle.network.specs.Load.{load_of}
 use Rattle.network.specs.Lists.{Sound}
 use Rattle.network.specs.Sessions.{NoHarm}
 use Rattle.network.proofs.Lists.{sound-i}
@@ -38,7 +39,7 @@ unharmed L M h x i hx hi e =
     sym (beq-e (output L x i) (output M x i) k)
 
 -- a granted order's board
-module _ (file : List ℕ) (s : Session) (ps : List Pair) (bytes : Bytes file) (loads : load_of file ≡ load_done s) (h : grants (reply_of file ps) ≡ true) where
+module _ (file : List ℕ) (s : Session) (ps : List Pair) (bytes : Bytes file) (loads : load_of file ≡ Ok s) (h : grants (reply_of file ps) ≡ true) where
   abbrev rs : List Replacement
   rs = replacements ps
 

@@ -12,16 +12,16 @@ use borrow.Author.Tests.{lt-ltb}
 use Rattle.bits.specs.Bounds.{most_inputs}
 use Rattle.bits.specs.Bit.{bit}
 use Rattle.bits.proofs.Ranges.{by_cases, length-places}
+use Rattle.std.specs.Prelude.{Result, Ok, Err}
+use Rattle.network.specs.Answer.{Answer, Done}
 use Rattle.network.specs.declared.Session.{Session}
 use Rattle.network.specs.declared.Refusal.{Refusal}
 use Rattle.network.specs.declared.Refusal.TheVariants.{Truncated, UnexpectedMark, OutOfBounds, FaninNotEarlier, FaninRepeated, BitPastEnd, NotASignal, TrailingBytes, BufferTooShort, InvalidState, NotAGate, TableTooWide, ClosedEntry, Harm, ListsUnequal, GateRepeated, OutsideSubset, BadName}
-use Rattle.network.specs.declared.Answer.{Answer}
-use Rattle.network.specs.declared.Answer.TheVariants.{Done, Refused}
 use Rattle.network.specs.Bounds.{most_fanins, most_entries}
 use Rattle.network.specs.Net.{Net, is_gate, entries, Replacement}
 use Rattle.network.specs.Flat.{net_of, loaded_net}
 use Rattle.network.specs.Refusals.{number_of}
-use Rattle.network.specs.Load.{load_of, load_done}
+use Rattle.network.specs.Load.{session_of, load_of}
 use Rattle.network.specs.Calls.{exchange_answer, pairs_test, refused_at}
 use Rattle.network.specs.Lists.{Sound}
 use Rattle.network.specs.Sessions.{answer_by}
@@ -201,12 +201,12 @@ module _ (file : List ℕ) (ps : List Pair) (names : (k : ℕ) → length (get_o
   abbrev rs : List Replacement
   rs = replacements ps
 
-  by-reply : (m : ℕ) (q : Reply) → reply_of file ps ≡ q → length (answer_for q (load_of file).session ps) ≤ m → length (answer_text file ps) ≤ m
+  by-reply : (m : ℕ) (q : Reply) → reply_of file ps ≡ q → length (answer_for q (session_of (load_of file)) ps) ≤ m → length (answer_text file ps) ≤ m
   unfolding answer_text
-  by-reply m q e h = subst (λ (q : Reply). length (answer_for q (load_of file).session ps) ≤ m) (sym e) h
+  by-reply m q e h = subst (λ (q : Reply). length (answer_for q (session_of (load_of file)) ps) ≤ m) (sym e) h
 
   -- where a pair is refused: the name is a gate's, or the refusal is 11
-  module _ (s : Session) (loads : load_of file ≡ load_done s) where
+  module _ (s : Session) (loads : load_of file ≡ Ok s) where
     abbrev at : ℕ
     at = refused_at (loaded_net s) [] rs
 
@@ -218,24 +218,22 @@ module _ (file : List ℕ) (ps : List Pair) (names : (k : ℕ) → length (get_o
         let l = pair-refused-length f (get_or ps at no_pair).gate in
         omega arith
 
-    refusal-length : (f : Refusal) → pairs_test (loaded_net s) [] rs ≡ Refused f → OfPair f → length (answer_text file ps) ≤ most_refusal_bytes
+    refusal-length : (f : Refusal) → pairs_test (loaded_net s) [] rs ≡ Err f → OfPair f → length (answer_text file ps) ≤ most_refusal_bytes
     refusal-length f h o =
         by-reply most_refusal_bytes (PairRefused f at) (reply-loaded file s ps loads ∙ pair-reply s (loaded-fresh file s loads) ps f h o)
         (line-for f (fault-gate (loaded_net s) [] ps f h))
 
-    board-length : (pairs_test (loaded_net s) [] rs ≡ Done) ⊎ ((f : Refusal) × (pairs_test (loaded_net s) [] rs ≡ Refused f) × OfPair f × (refused_at (loaded_net s) [] rs < length rs))
+    board-length : (pairs_test (loaded_net s) [] rs ≡ Done) ⊎ ((f : Refusal) × (pairs_test (loaded_net s) [] rs ≡ Err f) × OfPair f × (refused_at (loaded_net s) [] rs < length rs))
         → length (answer_text file ps) ≤ most_answer_bytes
     board-length (inl t) =
         by-reply most_answer_bytes (reply_of file ps) refl
         (rw loads (sound-length s (loaded-fresh file s loads) ps names (sound-e (loaded_net s) [] rs t) (reply_of file ps) (comes file s ps loads)))
     board-length (inr f) = let l = refusal-length f.0 f.1 f.2 in omega arith
 
-  by-load : (a : Answer) → (load_of file).answer ≡ a → length (answer_text file ps) ≤ most_answer_bytes
+  by-load : (l : Result Session Refusal) → load_of file ≡ l → length (answer_text file ps) ≤ most_answer_bytes
   unfolding reply_of
-  by-load (Refused r) e = by-reply most_answer_bytes (FileRefused r) (rw e) (file-length r)
-  by-load Done e =
-      let s = (load_of file).session in
-      board-length s (ap (λ (a : Answer). record { answer = a; session = (load_of file).session }) e) (pairs-only (loaded_net s) [] rs)
+  by-load (Err r) e = by-reply most_answer_bytes (FileRefused r) (rw e) (file-length r)
+  by-load (Ok s) e = board-length s e (pairs-only (loaded_net s) [] rs)
 
 -- a name has = and a digit behind it
 names-within : (text : List ℕ) (p : Pair) (ps : List Pair) → length text ≤ most_order_bytes → order_of text ≡ Pairs p ps → (k : ℕ) → length (get_or (p ∷ ps) k no_pair).gate ≤ most_order_bytes - 2
@@ -245,6 +243,6 @@ pub answer-length : AnswerLengthOf
 answer-length file text p ps l e =
     let names = names-within text p ps l e in
     record {
-      most = by-load file (p ∷ ps) names (load_of file).answer refl;
+      most = by-load file (p ∷ ps) names (load_of file) refl;
       refusal = λ s f loads h. refusal-length file (p ∷ ps) names s loads f h (of_pair (loaded_net s) [] (replacements (p ∷ ps)) f h);
     }

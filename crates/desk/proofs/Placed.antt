@@ -4,8 +4,8 @@ use mathlib.Core.List.{List, [], ◌∷◌}
 use Prim.Native.Nat.{ℕ, ◌-◌}
 use native.Mathlib.Omega.{arith}
 use lib.ListN.{length, set}
+use Rattle.network.specs.Answer.{Done}
 use Rattle.network.specs.declared.Session.{Session}
-use Rattle.network.specs.declared.Answer.TheVariants.{Done}
 use Rattle.network.specs.Net.{Replacement, replaced}
 use Rattle.network.specs.Flat.{net_with, loaded_net, current_net, stored_all}
 use Rattle.network.specs.State.{state_fault}

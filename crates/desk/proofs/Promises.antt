@@ -8,19 +8,19 @@ use native.Mathlib.Omega.{arith}
 use lib.Dec.{eqb}
 use lib.ListN.{get_or, take, drop}
 use Rattle.bits.proofs.Ranges.{and_l, and_r, and_i, by_cases}
+use Rattle.std.specs.Prelude.{Result, Ok}
+use Rattle.network.specs.Answer.{Answer, answer_of}
 use Rattle.network.specs.declared.Session.{Session}
-use Rattle.network.specs.declared.Loaded.{Loaded}
 use Rattle.network.specs.declared.Refusal.{Refusal}
-use Rattle.network.specs.declared.Answer.{Answer}
 use Rattle.network.specs.Net.{Net, Replacement, replaced}
 use Rattle.network.specs.Flat.{loaded_net}
 use Rattle.network.specs.Refusals.{number_of, said}
 use Rattle.network.specs.Tests.{is_done}
 use Rattle.network.specs.Lists.{Sound}
-use Rattle.network.specs.Load.{load_of, load_done}
+use Rattle.network.specs.Load.{session_of, load_of}
 use Rattle.network.specs.Write.{bytes_of}
 use Rattle.network.specs.Calls.{exchange_answer, exchange_of}
-use Rattle.network.specs.Sessions.{after, answers, answer_by}
+use Rattle.network.specs.Sessions.{next, after, answers, answer_by}
 use Rattle.network.proofs.Lists.{sound-e}
 use Rattle.network.proofs.Harm.{harm-done, harm-answer, harm-at}
 use Rattle.network.proofs.Exchanges.{answers-are}
@@ -72,7 +72,7 @@ cancel (x ∷ xs) ys zs h = cancel xs ys zs (ap (λ (l : List Answer). drop 1 l)
 
 answers-append : (s : Session) (es rs : List Replacement) → answers s (es ++ rs) ≡ answers s es ++ answers (after s es) rs
 answers-append s [] rs = refl
-answers-append s (e ∷ es) rs = ap (λ (l : List Answer). (exchange_of s e).answer ∷ l) (answers-append (exchange_of s e).session es rs)
+answers-append s (e ∷ es) rs = ap (λ (l : List Answer). answer_of (exchange_of s e) ∷ l) (answers-append (next s e) es rs)
 
 pub standing : StandingOf
 standing file s ps es loads h =
@@ -100,7 +100,7 @@ open-append s (q ∷ qs) rs a b =
     and_i x (all (λ r. is_done (exchange_answer s r)) (qs ++ rs)) (and_l x y a) (open-append s qs rs (and_r x y a) b)
 
 -- an order that is answered Open: its pairs are sound, and each would be accepted
-open_order : (file : List ℕ) (s : Session) (ps : List Pair) → load_of file ≡ load_done s → reply_of file ps ≡ Open
+open_order : (file : List ℕ) (s : Session) (ps : List Pair) → load_of file ≡ Ok s → reply_of file ps ≡ Open
     → Sound (loaded_net s) [] (replacements ps) × (all_open s (replacements ps) ≡ true)
 open_order file s ps loads h =
     let rs = replacements ps in
@@ -108,12 +108,12 @@ open_order file s ps loads h =
     (verdict-sound s rs o.0, o.1)
 
 -- and back
-order_open : (file : List ℕ) (s : Session) (ps : List Pair) (rs : List Replacement) → load_of file ≡ load_done s → replacements ps ≡ rs
+order_open : (file : List ℕ) (s : Session) (ps : List Pair) (rs : List Replacement) → load_of file ≡ Ok s → replacements ps ≡ rs
     → Sound (loaded_net s) [] rs → all_open s rs ≡ true → reply_of file ps ≡ Open
 order_open file s ps rs loads e a o =
     reply-loaded file s ps loads ∙ ap (reply_on s) e ∙ open-i s rs (open-verdict s (loaded-fresh file s loads) rs a o) o
 
-joined : (file : List ℕ) (s : Session) (ps qs : List Pair) → load_of file ≡ load_done s → Apart ps qs → reply_of file ps ≡ Open → reply_of file qs ≡ Open → reply_of file (ps ++ qs) ≡ Open
+joined : (file : List ℕ) (s : Session) (ps qs : List Pair) → load_of file ≡ Ok s → Apart ps qs → reply_of file ps ≡ Open → reply_of file qs ≡ Open → reply_of file (ps ++ qs) ≡ Open
 joined file s ps qs loads apart hp hq =
     let p = open_order file s ps loads hp in
     let q = open_order file s qs loads hq in
@@ -196,13 +196,13 @@ begin-no (FileRefused r) s ps = (λ h. other 0x72 0x6E refl h (λ z. omega arith
 
 pub begins : BeginsOf
 unfolding answer_text
-begins file ps = record { grant = begin-yes (reply_of file ps) (load_of file).session ps; harm = begin-no (reply_of file ps) (load_of file).session ps }
+begins file ps = record { grant = begin-yes (reply_of file ps) (session_of (load_of file)) ps; harm = begin-no (reply_of file ps) (session_of (load_of file)) ps }
 
 -- ## The first bytes
 
 pub decided : DecidedOf
 unfolding answer_text reply_of board_of
 decided file ps = record {
-  text = ap (λ (l : Loaded). answer_for (reply_for l.answer l.session (replacements ps)) l.session ps) (prefix file);
-  board = ap (λ (l : Loaded). bytes_of (placed l.session (replacements ps))) (prefix file);
+  text = ap (λ (l : Result Session Refusal). answer_for (reply_for l (replacements ps)) (session_of l) ps) (prefix file);
+  board = ap (λ (l : Result Session Refusal). bytes_of (placed (session_of l) (replacements ps))) (prefix file);
 }

@@ -7,17 +7,17 @@ use Prim.Native.Nat.{ℕ}
 use native.Mathlib.Omega.{arith}
 use lib.ListN.{get_or}
 use Rattle.bits.proofs.Ranges.{and_l, and_r}
+use Rattle.std.specs.Prelude.{Ok, Err}
+use Rattle.network.specs.Answer.{Answer, Done, answer_of}
 use Rattle.network.specs.declared.Session.{Session}
 use Rattle.network.specs.declared.Refusal.{Refusal}
 use Rattle.network.specs.declared.Refusal.TheVariants.{Truncated, UnexpectedMark, OutOfBounds, FaninNotEarlier, FaninRepeated, BitPastEnd, NotASignal, TrailingBytes, BufferTooShort, InvalidState, NotAGate, TableTooWide, ClosedEntry, Harm, ListsUnequal, GateRepeated, OutsideSubset, BadName}
-use Rattle.network.specs.declared.Answer.{Answer}
-use Rattle.network.specs.declared.Answer.TheVariants.{Done, Refused}
 use Rattle.network.specs.Net.{Net, Replacement, signals, new_tables, replaced}
 use Rattle.network.specs.Flat.{loaded_net, current_net}
 use Rattle.network.specs.Refusals.{said}
 use Rattle.network.specs.Tests.{is_done}
 use Rattle.network.specs.State.{state_test}
-use Rattle.network.specs.Load.{load_of, load_done}
+use Rattle.network.specs.Load.{load_of}
 use Rattle.network.specs.Calls.{harm_test, exchange_answer, exchanged, exchange_of, lengths_test, pairs, pairs_test, refused_at, verdict_of, verdict_on}
 use Rattle.network.specs.Lists.{Sound}
 use Rattle.network.specs.Sessions.{answer_by, Acceptable}
@@ -41,11 +41,11 @@ use Rattle.desk.proofs.Placed.{fresh-net}
 abbrev back : Reply → Answer
 back Open = Done
 back Alone = Done
-back (Harmful x i) = Refused (Harm x i)
-back (PairRefused r k) = Refused r
-back (FileRefused r) = Refused r
+back (Harmful x i) = Err (Harm x i)
+back (PairRefused r k) = Err r
+back (FileRefused r) = Err r
 
-back-refused : (r : Refusal) (k : ℕ) → back (refused_reply r k) ≡ Refused r
+back-refused : (r : Refusal) (k : ℕ) → back (refused_reply r k) ≡ Err r
 back-refused (Harm x i) k = refl
 back-refused NotAGate k = refl
 back-refused InvalidState k = refl
@@ -70,8 +70,8 @@ back_either true = refl
 back_either false = refl
 
 back_is : (a : Answer) (s : Session) (rs : List Replacement) → back (reply_by a s rs) ≡ a
-back_is Done s rs = back_either (all_open s rs)
-back_is (Refused r) s rs = back-refused r (refused_at (loaded_net s) [] rs)
+back_is (Ok _) s rs = back_either (all_open s rs)
+back_is (Err r) s rs = back-refused r (refused_at (loaded_net s) [] rs)
 
 pub granted-e : (q : Reply) → grants q ≡ true → back q ≡ Done
 granted-e Open h = refl
@@ -87,7 +87,7 @@ granted-i (Harmful x i) h = refused-done (Harm x i) h
 granted-i (PairRefused r k) h = refused-done r h
 granted-i (FileRefused r) h = refused-done r h
 
-harmful-i : (a : Answer) (s : Session) (rs : List Replacement) (x i : ℕ) → a ≡ Refused (Harm x i) → reply_by a s rs ≡ Harmful x i
+harmful-i : (a : Answer) (s : Session) (rs : List Replacement) (x i : ℕ) → a ≡ Err (Harm x i) → reply_by a s rs ≡ Harmful x i
 harmful-i a s rs x i h = ap (λ (a : Answer). reply_by a s rs) h
 
 either-open : (b : Bool) → cond b Open Alone ≡ Open → b ≡ true
@@ -111,7 +111,7 @@ module _ (s : Session) (rs : List Replacement) where
   pub verdict-granted : verdict_on s rs ≡ Done → grants (reply_on s rs) ≡ true
   verdict-granted h = granted-i (reply_on s rs) (reply-back ∙ h)
 
-  pub harmful-verdict : (x i : ℕ) → (reply_on s rs ≡ Harmful x i) ↔ (verdict_on s rs ≡ Refused (Harm x i))
+  pub harmful-verdict : (x i : ℕ) → (reply_on s rs ≡ Harmful x i) ↔ (verdict_on s rs ≡ Err (Harm x i))
   unfolding reply_on
   harmful-verdict x i = (λ h. sym reply-back ∙ ap back h, λ h. harmful-i (verdict_on s rs) s rs x i h)
 
@@ -123,7 +123,7 @@ module _ (s : Session) (rs : List Replacement) where
   pub open-i : verdict_on s rs ≡ Done → all_open s rs ≡ true → reply_on s rs ≡ Open
   open-i v o = reply-done v ∙ ap (λ (b : Bool). cond b Open Alone) o
 
-pub reply-loaded : (file : List ℕ) (s : Session) (ps : List Pair) → load_of file ≡ load_done s → reply_of file ps ≡ reply_on s (replacements ps)
+pub reply-loaded : (file : List ℕ) (s : Session) (ps : List Pair) → load_of file ≡ Ok s → reply_of file ps ≡ reply_on s (replacements ps)
 unfolding reply_of
 reply-loaded file s ps e = rw e
 
@@ -149,16 +149,16 @@ abbrev pub dones : List Replacement → List Answer
 dones rs = map (λ r. Done) rs
 
 done-e : (a : Answer) → is_done a ≡ true → a ≡ Done
-done-e Done h = refl
-done-e (Refused r) h = absurd (false≢true h)
+done-e (Ok _) h = refl
+done-e (Err r) h = absurd (false≢true h)
 
-exchange-answer : (s : Session) (r : Replacement) → (exchange_of s r).answer ≡ exchange_answer s r
+exchange-answer : (s : Session) (r : Replacement) → answer_of (exchange_of s r) ≡ exchange_answer s r
 unfolding exchange_of
 exchange-answer s r = go (exchange_answer s r)
   where
-    go : (a : Answer) → (exchanged a s r).answer ≡ a
-    go Done = refl
-    go (Refused f) = refl
+    go : (a : Answer) → answer_of (exchanged a s r) ≡ a
+    go (Ok _) = refl
+    go (Err f) = refl
 
 module _ (s : Session) (fresh : Fresh s) where
   -- in a fresh session the held open tables are those of rule 7

@@ -1,13 +1,13 @@
 -- The text of an answer. Assumes nothing.
 use Rattle.std.specs.Prelude.{cond, List, [], ◌∷◌, ◌++◌, ℕ, zero, suc, ◌-◌, eqb, get_or}
 use Rattle.bits.specs.Bit.{bit}
+use Rattle.std.specs.Prelude.{Ok, Err}
+use Rattle.network.specs.Answer.{Answer}
 use Rattle.network.specs.declared.Session.{Session}
 use Rattle.network.specs.declared.Refusal.{Refusal}
-use Rattle.network.specs.declared.Answer.{Answer}
-use Rattle.network.specs.declared.Answer.TheVariants.{Done, Refused}
 use Rattle.network.specs.Flat.{loaded_net}
 use Rattle.network.specs.Refusals.{number_of, values_of}
-use Rattle.network.specs.Load.{load_of}
+use Rattle.network.specs.Load.{session_of, load_of}
 use Rattle.network.specs.Calls.{exchange_answer}
 use Rattle.text.specs.Numbers.{hex, decimal}
 use Rattle.text.specs.Ascii.{ascii}
@@ -71,8 +71,8 @@ pair_refused_line r gate =
 
 -- what would be answered to the exchange
 abbrev pub open_text : Answer → Text
-open_text Done = ascii ": open\n"
-open_text (Refused r) = ascii ": entry " ++ decimal (get_or (values_of r) 0 0) ++ ascii " is closed\n"
+open_text (Ok _) = ascii ": open\n"
+open_text (Err r) = ascii ": entry " ++ decimal (get_or (values_of r) 0 0) ++ ascii " is closed\n"
 
 -- tables as in the listing
 unfoldable pub pair_line : Session → Pair → Text
@@ -99,4 +99,4 @@ answer_for (PairRefused r k) s ps = pair_refused_line r (get_or ps k no_pair).ga
 answer_for (FileRefused r) s ps = file_line r
 
 unfoldable pub answer_text : (file : List ℕ) → List Pair → Text
-answer_text file ps = answer_for (reply_of file ps) (load_of file).session ps
+answer_text file ps = answer_for (reply_of file ps) (session_of (load_of file)) ps

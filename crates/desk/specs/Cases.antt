@@ -1,7 +1,7 @@
 -- Cases of orders on small boards, each computed and held against what is stated. Assumes nothing.
 use Rattle.std.specs.Prelude.{List, [], ◌∷◌, ◌++◌, map, ℕ, replicate, take, drop}
 use Rattle.network.specs.declared.Session.{Session}
-use Rattle.network.specs.Load.{load_of}
+use Rattle.network.specs.Load.{session_of, load_of}
 use Rattle.network.specs.Refusals.{said}
 use Rattle.network.specs.Examples.{twin_bytes, twin_session, or_six_session, held}
 use Rattle.network.specs.Cases.{numbers}
@@ -32,8 +32,8 @@ twin1_session = held 1 3 1 (2 ∷ []) (1 ∷ 1 ∷ 2 ∷ []) (replicate 12 0 ++ 
 -- the sessions are those of the files
 abbrev pub loads : List (List ℕ × List ℕ)
 loads =
-    (said (load_of xor_bytes).answer ++ numbers (load_of xor_bytes).session, numbers xor_session)
-    ∷ (said (load_of twin1_bytes).answer ++ numbers (load_of twin1_bytes).session, numbers twin1_session)
+    (said (load_of xor_bytes) ++ numbers (session_of (load_of xor_bytes)), numbers xor_session)
+    ∷ (said (load_of twin1_bytes) ++ numbers (session_of (load_of twin1_bytes)), numbers twin1_session)
     ∷ []
 
 abbrev pub harmed : Text

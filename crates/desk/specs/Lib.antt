@@ -1,3 +1,4 @@
+use Rattle.network.specs.Answer.{Answer}
 pub mod Reply
 pub mod Answer
 pub mod Promises

@@ -1,15 +1,16 @@
 -- What the desk promises of every file of bytes and every order. Assumes nothing.
 use Rattle.std.specs.Prelude.{◌≡◌, ◌↔◌, Bool, true, false, cond, List, [], ◌∷◌, ◌++◌, map, ℕ, ◌+◌, ◌-◌, ◌*◌, ◌<◌, ◌≤◌, length, take}
+use Rattle.std.specs.Prelude.{Ok, Err}
+use Rattle.network.specs.Answer.{Done, answer_of}
 use Rattle.network.specs.declared.Session.{Session}
 use Rattle.network.specs.declared.Refusal.{Refusal}
-use Rattle.network.specs.declared.Answer.TheVariants.{Done, Refused}
 use Rattle.network.specs.Bounds.{most_gates, most_file_bytes}
 use Rattle.network.specs.Net.{Net, patterns, excluded_for, output, Replacement, signals, with_gates, replaced}
 use Rattle.network.specs.Flat.{loaded_net, current_net}
 use Rattle.network.specs.Tests.{is_done, member}
-use Rattle.network.specs.Load.{load_of, load_done}
+use Rattle.network.specs.Load.{load_of}
 use Rattle.network.specs.Calls.{exchange_answer, pairs_test}
-use Rattle.network.specs.Sessions.{after, answers, NoHarm, FirstHarm}
+use Rattle.network.specs.Sessions.{next, after, answers, NoHarm, FirstHarm}
 use Rattle.bits.specs.Lists.{Bytes}
 use Rattle.text.specs.Numbers.{word_digits}
 use Rattle.text.specs.Ascii.{ascii}
@@ -24,7 +25,7 @@ replacements ps = map replacement_of ps
 
 -- the file loads to s, and no pair is refused
 pub record Asked (file : List ℕ) (s : Session) (ps : List Pair) : Type 0 where
-  pub loads : load_of file ≡ load_done s
+  pub loads : load_of file ≡ Ok s
   pub sound : pairs_test (loaded_net s) [] (replacements ps) ≡ Done
 
 -- the board with the order done
@@ -50,7 +51,7 @@ pub record Standing (s : Session) (ps : List Pair) (es : List Replacement) : Typ
       → output (current_net (after s (es ++ replacements ps))) x i ≡ output (loaded_net s) x i
 
 abbrev pub StandingOf : Type 0
-StandingOf = (file : List ℕ) (s : Session) (ps : List Pair) (es : List Replacement) → load_of file ≡ load_done s → reply_of file ps ≡ Open → Standing s ps es
+StandingOf = (file : List ℕ) (s : Session) (ps : List Pair) (es : List Replacement) → load_of file ≡ Ok s → reply_of file ps ≡ Open → Standing s ps es
 
 -- ## 3: two open orders with no gate in both are one open order, whichever comes first
 
@@ -58,7 +59,7 @@ abbrev pub Apart : List Pair → List Pair → Type 0
 Apart ps qs = (k : ℕ) → member k (signals (replacements ps)) ≡ true → member k (signals (replacements qs)) ≡ false
 
 abbrev pub OpenTogetherOf : Type 0
-OpenTogetherOf = (file : List ℕ) (s : Session) (ps qs : List Pair) → load_of file ≡ load_done s → Apart ps qs
+OpenTogetherOf = (file : List ℕ) (s : Session) (ps qs : List Pair) → load_of file ≡ Ok s → Apart ps qs
     → reply_of file ps ≡ Open → reply_of file qs ≡ Open → (reply_of file (ps ++ qs) ≡ Open) × (reply_of file (qs ++ ps) ≡ Open)
 
 -- ## 4: the pairs that are marked open, alone, are an open order
@@ -77,11 +78,11 @@ OfferOf = (file : List ℕ) (s : Session) (ps : List Pair) → Asked file s ps �
 
 pub record Written (file : List ℕ) (s : Session) (ps : List Pair) : Type 0 where
   pub session : Session
-  pub loads : load_of (board_of file ps) ≡ load_done session
+  pub loads : load_of (board_of file ps) ≡ Ok session
   pub loaded : loaded_net session ≡ changed s ps
 
 abbrev pub BoardOf : Type 0
-BoardOf = (file : List ℕ) (s : Session) (ps : List Pair) → Bytes file → load_of file ≡ load_done s → grants (reply_of file ps) ≡ true → Written file s ps
+BoardOf = (file : List ℕ) (s : Session) (ps : List Pair) → Bytes file → load_of file ≡ Ok s → grants (reply_of file ps) ≡ true → Written file s ps
 
 -- ## 6: orders, each asked on the board that the last granted one gave
 
@@ -95,13 +96,13 @@ chain file (ps ∷ orders) = chain (next file ps) orders
 -- the last board loads; but for its gates it is the first, with the same patterns excluded; and its outputs are those of the first
 pub record Chained (file : List ℕ) (s : Session) (orders : List (List Pair)) : Type 0 where
   pub session : Session
-  pub loads : load_of (chain file orders) ≡ load_done session
+  pub loads : load_of (chain file orders) ≡ Ok session
   pub stays : loaded_net session ≡ with_gates (loaded_net s) (loaded_net session).gates
   pub same : (x i : ℕ) → x < patterns (loaded_net s) → i < length (loaded_net s).outputs → excluded_for (loaded_net s) i x ≡ false
       → output (loaded_net session) x i ≡ output (loaded_net s) x i
 
 abbrev pub ChainOf : Type 0
-ChainOf = (file : List ℕ) (s : Session) (orders : List (List Pair)) → Bytes file → load_of file ≡ load_done s → Chained file s orders
+ChainOf = (file : List ℕ) (s : Session) (orders : List (List Pair)) → Bytes file → load_of file ≡ Ok s → Chained file s orders
 
 -- ## 7: the text's first word is the reply
 
@@ -115,12 +116,12 @@ BeginsOf = (file : List ℕ) (ps : List Pair) → Begins file ps
 -- ## Refusals are of the file, or of the first pair at fault
 
 abbrev pub FileRefusedOf : Type 0
-FileRefusedOf = (file : List ℕ) (ps : List Pair) (f : Refusal) → (load_of file).answer ≡ Refused f → reply_of file ps ≡ FileRefused f
+FileRefusedOf = (file : List ℕ) (ps : List Pair) (f : Refusal) → answer_of (load_of file) ≡ Err f → reply_of file ps ≡ FileRefused f
 
 -- the pairs in front pass, and with the next one they do not: its place is named, whatever is behind it
 abbrev pub PairRefusedOf : Type 0
-PairRefusedOf = (file : List ℕ) (s : Session) (front behind : List Pair) (p : Pair) (f : Refusal) → load_of file ≡ load_done s
-    → pairs_test (loaded_net s) [] (replacements front) ≡ Done → pairs_test (loaded_net s) [] (replacements (front ++ p ∷ [])) ≡ Refused f
+PairRefusedOf = (file : List ℕ) (s : Session) (front behind : List Pair) (p : Pair) (f : Refusal) → load_of file ≡ Ok s
+    → pairs_test (loaded_net s) [] (replacements front) ≡ Done → pairs_test (loaded_net s) [] (replacements (front ++ p ∷ [])) ≡ Err f
     → reply_of file (front ++ p ∷ behind) ≡ PairRefused f (length front)
 
 -- ## On a board that loads a reply is of the order: 14 in its bounds, or 11, 16 or 12 of one of its pairs
@@ -133,7 +134,7 @@ Comes s ps (PairRefused r k) = k < length ps
 Comes s ps (FileRefused r) = ⊥
 
 abbrev pub ComesOf : Type 0
-ComesOf = (file : List ℕ) (s : Session) (ps : List Pair) → load_of file ≡ load_done s → Comes s ps (reply_of file ps)
+ComesOf = (file : List ℕ) (s : Session) (ps : List Pair) → load_of file ≡ Ok s → Comes s ps (reply_of file ps)
 
 -- ## The first bytes of a board's file decide
 
@@ -161,7 +162,7 @@ most_refusal_bytes = (most_order_bytes - 2) + 24
 pub record AnswerLength (file : List ℕ) (ps : List Pair) : Type 0 where
   pub most : length (answer_text file ps) ≤ most_answer_bytes
   -- where a pair is refused
-  pub refusal : (s : Session) (f : Refusal) → load_of file ≡ load_done s → pairs_test (loaded_net s) [] (replacements ps) ≡ Refused f
+  pub refusal : (s : Session) (f : Refusal) → load_of file ≡ Ok s → pairs_test (loaded_net s) [] (replacements ps) ≡ Err f
       → length (answer_text file ps) ≤ most_refusal_bytes
 
 abbrev pub AnswerLengthOf : Type 0

@@ -1,14 +1,14 @@
 -- What an order on a board is answered. Assumes nothing.
 use Rattle.std.specs.Prelude.{Bool, true, false, cond, List, [], map, ℕ}
+use Rattle.std.specs.Prelude.{Result, Ok, Err}
+use Rattle.network.specs.Answer.{Answer}
 use Rattle.network.specs.declared.Session.{Session}
 use Rattle.network.specs.declared.Refusal.{Refusal}
 use Rattle.network.specs.declared.Refusal.TheVariants.{Truncated, UnexpectedMark, OutOfBounds, FaninNotEarlier, FaninRepeated, BitPastEnd, NotASignal, TrailingBytes, BufferTooShort, InvalidState, NotAGate, TableTooWide, ClosedEntry, Harm, ListsUnequal, GateRepeated, OutsideSubset, BadName}
-use Rattle.network.specs.declared.Answer.{Answer}
-use Rattle.network.specs.declared.Answer.TheVariants.{Done, Refused}
 use Rattle.network.specs.Net.{Replacement}
 use Rattle.network.specs.Flat.{loaded_net, stored_all}
 use Rattle.network.specs.Tests.{is_done}
-use Rattle.network.specs.Load.{load_of}
+use Rattle.network.specs.Load.{session_of, load_of}
 use Rattle.network.specs.Write.{bytes_of}
 use Rattle.network.specs.Calls.{with_current, exchange_answer, refused_at, verdict_on}
 use Rattle.text.specs.Words.{all}
@@ -43,8 +43,8 @@ refused_reply BadName k = FileRefused BadName
 
 -- the reply by a verdict, where k pairs stand before the first that is refused, and opens tells whether each would be accepted
 abbrev pub reply_with : Answer → (k : ℕ) → (opens : Bool) → Reply
-reply_with Done k opens = cond opens Open Alone
-reply_with (Refused r) k opens = refused_reply r k
+reply_with (Ok _) k opens = cond opens Open Alone
+reply_with (Err r) k opens = refused_reply r k
 
 -- the reply by the verdict on all pairs at once
 abbrev pub reply_by : Answer → Session → List Replacement → Reply
@@ -54,13 +54,13 @@ reply_by v s rs = reply_with v (refused_at (loaded_net s) [] rs) (all_open s rs)
 unfoldable pub reply_on : Session → List Replacement → Reply
 reply_on s rs = reply_by (verdict_on s rs) s rs
 
-abbrev pub reply_for : Answer → Session → List Replacement → Reply
-reply_for Done s rs = reply_on s rs
-reply_for (Refused r) s rs = FileRefused r
+abbrev pub reply_for : Result Session Refusal → List Replacement → Reply
+reply_for (Ok s) rs = reply_on s rs
+reply_for (Err r) rs = FileRefused r
 
 -- on a board's file
 unfoldable pub reply_of : (file : List ℕ) → List Pair → Reply
-reply_of file ps = reply_for (load_of file).answer (load_of file).session (map replacement_of ps)
+reply_of file ps = reply_for (load_of file) (map replacement_of ps)
 
 abbrev pub grants : Reply → Bool
 grants Open = true
@@ -76,4 +76,4 @@ abbrev pub placed : Session → List Replacement → Session
 placed s rs = with_current s (stored_all s.n rs s.current)
 
 unfoldable pub board_of : (file : List ℕ) → List Pair → List ℕ
-board_of file ps = bytes_of (placed (load_of file).session (map replacement_of ps))
+board_of file ps = bytes_of (placed (session_of (load_of file)) (map replacement_of ps))

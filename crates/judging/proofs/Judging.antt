@@ -6,18 +6,17 @@ use Prim.Native.Nat.{ℕ, zero, suc, ◌+◌, ◌-◌, ◌<◌, ◌≤◌}
 use native.Mathlib.Omega.{arith}
 use lib.ListN.{length, get_or, take, drop, drop_of_length-le, length-append}
 use Rattle.bits.specs.Lists.{overwritten}
+use Rattle.std.specs.Prelude.{Result, Ok, Err}
+use Rattle.network.specs.Answer.{Answer, Done}
 use Rattle.network.specs.declared.Session.{Session}
-use Rattle.network.specs.declared.Loaded.{Loaded}
 use Rattle.network.specs.declared.Refusal.{Refusal}
-use Rattle.network.specs.declared.Answer.{Answer}
-use Rattle.network.specs.declared.Answer.TheVariants.{Done, Refused}
 use Rattle.network.specs.Bounds.{most_gates, most_file_bytes}
 use Rattle.network.specs.Net.{Replacement, signals}
 use Rattle.network.specs.Flat.{loaded_net, stored_all}
 use Rattle.network.specs.Lists.{Sound}
 use Rattle.network.specs.Tests.{is_done}
 use Rattle.network.specs.State.{state_fault}
-use Rattle.network.specs.Load.{load_of}
+use Rattle.network.specs.Load.{session_of, load_of}
 use Rattle.network.specs.Write.{bytes_of}
 use Rattle.network.specs.Calls.{with_current, exchange_answer, pairs, refused_at, verdict_of}
 use Rattle.network.proofs.Fresh.{Fresh}
@@ -52,8 +51,8 @@ module _ (s : Session) (gs ts : List ℕ) where
         ap (λ (x : Answer). is_done x && all_open s (pairs (drop (i + 1) gs) (drop (i + 1) ts))) (sym d ∙ e)
         ∙ sym (ap (all_open s) (pairs-at gs ts i h l)) ∙ left
 
-    pub open-stops : {f : Refusal} → a ≡ Refused f → false ≡ all_open s (pairs gs ts)
-    open-stops {f} d = whole (Refused f) d
+    pub open-stops : {f : Refusal} → a ≡ Err f → false ≡ all_open s (pairs gs ts)
+    open-stops {f} d = whole (Err f) d
 
     pub open_next : a ≡ Done → Left (i + 1)
     open_next d = whole Done d
@@ -79,21 +78,21 @@ slices-are o n e = let q : n - 0 ≡ count_in o.case = omega arith in rw q
 
 -- ## A file
 
-module _ (file : List ℕ) (l : Loaded) (e : l ≡ load_of file) where
-  pub loaded-valid : l.answer ≡ Done → state_fault l.session ≡ Done
-  loaded-valid d = (loaded-fresh file l.session (sym e ∙ ap (λ (a : Answer). record { answer = a; session = l.session }) d)).valid
+module _ (file : List ℕ) where
+  pub loaded-valid : {s : Session} → Ok s ≡ load_of file → state_fault s ≡ Done
+  loaded-valid {s} e = (loaded-fresh file s (sym e)).valid
 
-  pub judged-is : (a : Answer) (rs : List Replacement) → l.answer ≡ a → record { reply = reply_for a l.session rs; session = l.session } ≡ judged_of file rs
+  judged-is : (l : Result Session Refusal) (rs : List Replacement) → l ≡ load_of file → record { reply = reply_for l rs; session = session_of l } ≡ judged_of file rs
   unfolding judged_of
-  judged-is a rs d =
-      ap (λ (a : Answer). record { reply = reply_for a l.session rs; session = l.session }) (sym d)
-      ∙ ap (λ (l : Loaded). record { reply = reply_for l.answer l.session rs; session = l.session }) e
+  judged-is l rs e = ap (λ (l : Result Session Refusal). record { reply = reply_for l rs; session = session_of l }) e
 
-  pub judged-done : (o : Order) (n : ℕ) (q : Reply) → l.answer ≡ Done → n ≡ count_in o.case → q ≡ reply_on l.session (slices o n)
-      → record { reply = q; session = l.session } ≡ judged_of file (replacements_in o)
-  judged-done o n q d c r =
-      ap (λ (q : Reply). record { reply = q; session = l.session }) (r ∙ ap (reply_on l.session) (slices-are o n c))
-      ∙ judged-is Done (replacements_in o) d
+  pub judged-refused : {r : Refusal} (rs : List Replacement) {s : Session} → Err r ≡ load_of file → s ≡ started 0 0 0 → record { reply = FileRefused r; session = s } ≡ judged_of file rs
+  judged-refused {r} rs e q = rw q (judged-is (Err r) rs e)
+
+  pub judged-done : {s : Session} (o : Order) (n : ℕ) (q : Reply) → Ok s ≡ load_of file → n ≡ count_in o.case → q ≡ reply_on s (slices o n)
+      → record { reply = q; session = s } ≡ judged_of file (replacements_in o)
+  judged-done {s} o n q e c r =
+      ap (λ (q : Reply). record { reply = q; session = s }) (r ∙ ap (reply_on s) (slices-are o n c)) ∙ judged-is (Ok s) (replacements_in o) e
 
 -- ## An order that was read
 
@@ -108,7 +107,7 @@ module _ (text : List ℕ) (o : Order) (r : Reads text o) where
 
   judged-reply : (file : List ℕ) → (judged_of file (replacements_in o)).reply ≡ reply_of file (pairs_of (order_of text))
   unfolding judged_of reply_of
-  judged-reply file = ap (reply_for (load_of file).answer (load_of file).session) held-pairs
+  judged-reply file = ap (reply_for (load_of file)) held-pairs
 
 -- ## The new board
 
@@ -152,21 +151,19 @@ placeable s fresh rs g =
     record { valid = placed-valid s fresh rs sound; gates = sound-gates s fresh [] rs sound }
 
 -- where the file is refused, nothing is granted
-on-file : (file : List ℕ) (rs : List Replacement) (a : Answer) → (load_of file).answer ≡ a → grants (reply_for a (load_of file).session rs) ≡ true → Placeable (load_of file).session rs
-on-file file rs (Refused r) e g = absurd (false≢true g)
-on-file file rs Done e g =
-    let s = (load_of file).session in
-    placeable s (loaded-fresh file s (ap (λ (a : Answer). record { answer = a; session = s }) e)) rs g
+on-file : (file : List ℕ) (rs : List Replacement) (l : Result Session Refusal) → load_of file ≡ l → grants (reply_for l rs) ≡ true → Placeable (session_of l) rs
+on-file file rs (Err r) e g = absurd (false≢true g)
+on-file file rs (Ok s) e g = placeable s (loaded-fresh file s e) rs g
 
 pub given : GivenOf
 unfolding reply_of board_of
 given file text o r =
     let rs = map replacement_of (pairs_of (order_of text)) in
-    let s = (load_of file).session in
+    let s = session_of (load_of file) in
     let e = held-pairs text o r in
     record {
       pairs = e;
       reply = judged-reply text o r file;
-      placeable = λ g. subst (Placeable s) (sym e) (on-file file rs (load_of file).answer refl g);
+      placeable = λ g. subst (Placeable s) (sym e) (on-file file rs (load_of file) refl g);
       board = ap (λ (rs : List Replacement). bytes_of (placed s rs)) e;
     }

@@ -1,12 +1,12 @@
 -- What judging an order on a board's file gives, and when its new board can be written. Assumes nothing.
 use Rattle.std.specs.Prelude.{◌≡◌, true, List, map, ℕ, ◌≤◌, length, take}
 use Rattle.bits.specs.Lists.{overwritten}
+use Rattle.network.specs.Answer.{Done}
 use Rattle.network.specs.declared.Session.{Session}
-use Rattle.network.specs.declared.Answer.TheVariants.{Done}
 use Rattle.network.specs.Bounds.{most_gates}
 use Rattle.network.specs.Net.{Replacement, signals}
 use Rattle.network.specs.State.{state_fault}
-use Rattle.network.specs.Load.{load_of}
+use Rattle.network.specs.Load.{session_of, load_of}
 use Rattle.network.specs.Write.{bytes_of}
 use Rattle.network.specs.Calls.{pairs}
 use Rattle.replacements.specs.Pair.{GatesIn}
@@ -21,7 +21,7 @@ abbrev pub replacements_in : Order → List Replacement
 replacements_in o = pairs (take (count_in o.case) o.gates) (take (count_in o.case) o.tables)
 
 unfoldable pub judged_of : (file : List ℕ) → List Replacement → Judged
-judged_of file rs = record { reply = reply_for (load_of file).answer (load_of file).session rs; session = (load_of file).session }
+judged_of file rs = record { reply = reply_for (load_of file) rs; session = session_of (load_of file) }
 
 -- with all these tables current the session is valid; each has a place
 pub record Placeable (s : Session) (rs : List Replacement) : Type 0 where
@@ -38,8 +38,8 @@ pub record Put (s : Session) (rs : List Replacement) (before after : List ℕ) (
 pub record Given (file text : List ℕ) (o : Order) : Type 0 where
   pub pairs : replacements_in o ≡ map replacement_of (pairs_of (order_of text))
   pub reply : (judged_of file (replacements_in o)).reply ≡ reply_of file (pairs_of (order_of text))
-  pub placeable : grants (reply_of file (pairs_of (order_of text))) ≡ true → Placeable (load_of file).session (replacements_in o)
-  pub board : bytes_of (placed (load_of file).session (replacements_in o)) ≡ board_of file (pairs_of (order_of text))
+  pub placeable : grants (reply_of file (pairs_of (order_of text))) ≡ true → Placeable (session_of (load_of file)) (replacements_in o)
+  pub board : bytes_of (placed (session_of (load_of file)) (replacements_in o)) ≡ board_of file (pairs_of (order_of text))
 
 abbrev pub GivenOf : Type 0
 GivenOf = (file text : List ℕ) (o : Order) → Reads text o → Given file text o

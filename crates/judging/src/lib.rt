@@ -2,7 +2,7 @@
 #![tactic(auto)]
 
 ghost use Rattle.std.specs.Prelude.{◌≡◌, ◌≤◌, length};
-ghost use Rattle.network.specs.declared.Answer.TheVariants.{Done};
+ghost use Rattle.network.specs.Answer.{Done};
 ghost use Rattle.network.specs.Bounds.{most_file_bytes};
 ghost use Rattle.network.specs.State.{state_fault};
 ghost use Rattle.network.specs.Calls.{pairs};
@@ -12,7 +12,7 @@ ghost use Rattle.desk.specs.Reply.{all_open, refused_reply, reply_with, reply_on
 ghost use Rattle.judging.specs.Judged.{replacements_in, judged_of, Placeable, Put};
 
 use desk::Reply;
-use network::{Answer, Refusal, Session};
+use network::{Refusal, Session};
 use ordertext::Order;
 
 // A verdict's refusal, where k pairs stand before the first that is refused.
@@ -20,19 +20,8 @@ fn refused_reply(r: Refusal, k: usize) -> Reply
     ensures { result ≡ refused_reply r k }
 {
     match r {
-        Refusal::Harm { pattern, output } => Reply::Harmful {
-            pattern: pattern,
-            output: output,
-        },
-        Refusal::NotAGate => Reply::PairRefused {
-            refusal: r,
-            pair: k,
-        },
-        Refusal::GateRepeated => Reply::PairRefused {
-            refusal: r,
-            pair: k,
-        },
-        Refusal::TableTooWide => Reply::PairRefused {
+        Refusal::Harm { pattern, output } => Reply::Harmful { pattern, output },
+        Refusal::NotAGate | Refusal::GateRepeated | Refusal::TableTooWide => Reply::PairRefused {
             refusal: r,
             pair: k,
         },
@@ -41,16 +30,19 @@ fn refused_reply(r: Refusal, k: usize) -> Reply
 }
 
 // The reply by a verdict on all pairs.
-fn reply_with(v: Answer, k: usize, opens: bool) -> Reply
+fn reply_with(v: Result<(), Refusal>, k: usize, opens: bool) -> Reply
     ensures { result ≡ reply_with v k opens }
 {
-    if let Answer::Refused(r) = v {
-        return refused_reply(r, k);
+    match v {
+        Ok(()) => {
+            if opens {
+                Reply::Open
+            } else {
+                Reply::Alone
+            }
+        }
+        Err(r) => refused_reply(r, k),
     }
-    if opens {
-        return Reply::Open;
-    }
-    Reply::Alone
 }
 
 // Whether each pair would be accepted as an exchange.
@@ -59,13 +51,10 @@ fn all_open(s: Session, gates: &[u64], tables: &[u64]) -> bool
     requires gates_len { length gates.now ≡ length tables.now }
     ensures { result ≡ all_open s (pairs gates.now tables.now) }
 {
-    let mut i: usize = 0;
-    while i < gates.len() {
-        let a = answers::exchange(s, gates[i] as usize, tables[i]);
-        if let Answer::Refused(_) = a {
+    for i in 0..gates.len() {
+        if answers::exchange(s, gates[i] as usize, tables[i]).is_err() {
             return false;
         }
-        i += 1;
     }
     true
 }
@@ -82,8 +71,8 @@ fn reply_on(s: Session, gates: &[u64], tables: &[u64]) -> Reply
     reply_with(v, k, opens)
 }
 
-// The reply to an order, and the session as loaded.
-#[derive(Drop)]
+// The reply to an order, and the session as loaded; all zeros where the file is refused.
+#[derive(Clone, Copy)]
 pub struct Judged {
     pub reply: Reply,
     pub session: Session,
@@ -94,23 +83,18 @@ pub fn judge(file: &[u8], o: Order) -> Judged
     requires { count_in o.case ≤ most_pairs }
     ensures { result ≡ judged_of file.now (replacements_in o) }
 {
-    let l = loading::load(file);
-    let a = l.answer;
-    let s = l.session;
-    if let Answer::Refused(r) = a {
-        return Judged {
+    match loading::load(file) {
+        Ok(s) => {
+            let gates = o.gates;
+            let tables = o.tables;
+            let n = ordertext::count(o.case);
+            let reply = reply_on(s, &gates[0..n], &tables[0..n]);
+            Judged { reply, session: s }
+        }
+        Err(r) => Judged {
             reply: Reply::FileRefused(r),
-            session: s,
-        };
-    }
-    let case = o.case;
-    let gates = o.gates;
-    let tables = o.tables;
-    let n = ordertext::count(case);
-    let q = reply_on(s, &gates[0..n], &tables[0..n]);
-    Judged {
-        reply: q,
-        session: s,
+            session: network::started(0, 0, 0),
+        },
     }
 }
 
@@ -134,17 +118,5 @@ pub fn put_board(buf: &mut [u8], s: Session, o: Order) -> usize
 pub fn granted(r: Reply) -> bool
     ensures { result ≡ grants r }
 {
-    match r {
-        Reply::Open => true,
-        Reply::Alone => true,
-        Reply::Harmful {
-            pattern: _,
-            output: _,
-        } => false,
-        Reply::PairRefused {
-            refusal: _,
-            pair: _,
-        } => false,
-        Reply::FileRefused(_) => false,
-    }
+    matches!(r, Reply::Open | Reply::Alone)
 }

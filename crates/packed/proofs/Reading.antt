@@ -12,7 +12,7 @@ use lib.Seq.{take-suc, drop-cons, drop-length, get_or-drop, set_at, length-take-
 use borrow.Author.Tests.{lt-ltb, le-ltb, ltb-true}
 use Rattle.bits.specs.Range.{every}
 use Rattle.bits.proofs.Ranges.{and_l, and_r, and_i, and-true, and_assoc, iff}
-use Rattle.std.specs.Prelude.{Ok, Err}
+use Rattle.std.specs.Prelude.{Err}
 use Rattle.network.specs.Answer.{Answer, giving}
 use Rattle.network.specs.declared.Session.{Session}
 use Rattle.network.specs.declared.Refusal.TheVariants.{BufferTooShort, InvalidState}

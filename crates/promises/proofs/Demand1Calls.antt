@@ -13,7 +13,8 @@ use Rattle.bits.specs.Range.{places}
 use Rattle.bits.proofs.Ranges.{or_r, length-places}
 use Rattle.bits.proofs.Logic.{clash}
 use Rattle.std.specs.Prelude.{Result, Err}
-use Rattle.network.specs.Answer.{Answer, Done}
+use Rattle.network.specs.Answer.{Answer, Done, answer_of}
+use Rattle.network.specs.Load.{session_of}
 use Rattle.network.specs.declared.Refusal.{Refusal}
 use Rattle.network.specs.declared.Session.{Session}
 use Rattle.network.specs.declared.Refusal.TheVariants.{BufferTooShort, InvalidState}
@@ -182,15 +183,15 @@ last-number : (y : ℕ) (ys : List ℕ) → member y (ys ++ y ∷ []) ≡ true
 last-number y [] = rw (eq-eqb y y refl)
 last-number y (z ∷ ys) = or_r (eqb z y) (member y (ys ++ y ∷ [])) (last-number y ys)
 
-read-ends : {l : Result Session Refusal} {ns : List ℕ} → Reader l ns → (session : List ℕ) → Ends (read_call l session) (packed_of l.session) session [] [] (ns ++ 9 ∷ [])
+read-ends : {l : Result Session Refusal} {ns : List ℕ} → Reader l ns → (session : List ℕ) → Ends (read_call l session) (packed_of (session_of l)) session [] [] (ns ++ 9 ∷ [])
 read-ends {l} {ns} reads session =
-    let Q : Answer → Type 0 = EndsBy (packed_of l.session) session [] [] (ns ++ 9 ∷ []) in
+    let Q : Answer → Type 0 = EndsBy (packed_of (session_of l)) session [] [] (ns ++ 9 ∷ []) in
     let room = room_test session_words session in
-    let by : (a : Answer) → l.answer ≡ a → Q (first (a ∷ room ∷ [])) → Q (read_answer l session) = λ a e q. rw e q in
+    let by : (a : Answer) → answer_of l ≡ a → Q (first (a ∷ room ∷ [])) → Q (read_answer l session) = λ a e q. rw e q in
     ⊎_elim
-    (λ d. let e = ap (λ (x : Result Session Refusal). x.answer) d in
+    (λ d. let e = ap answer_of d in
     by Done e (room_by (Before Q Done) session_words session (inr (9, last-number 9 ns, refl)) (λ h. inl (read-room l session (reads.sized e) h, omega arith, refl))))
-    (λ f. let e = ap (λ (x : Result Session Refusal). x.answer) f.2 in
+    (λ f. let e = ap answer_of f.2 in
     by (Err f.0) e (inr (number_of f.0, more_numbers (number_of f.0) 9 ns f.1, rw (sym (ap (λ (a : Answer). values_for a []) e) ∙ reads.none))))
     reads.ends
 

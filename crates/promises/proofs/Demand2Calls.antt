@@ -15,7 +15,7 @@ use Rattle.bits.specs.Bit.{bit}
 use Rattle.bits.proofs.Ranges.{places-at}
 use Rattle.bits.proofs.Logic.{clash}
 use Rattle.std.specs.Prelude.{Result, Ok, Err}
-use Rattle.network.specs.Answer.{Answer, Done}
+use Rattle.network.specs.Answer.{Answer, Done, answer_of}
 use Rattle.network.specs.declared.Session.{Session}
 use Rattle.network.specs.declared.Refusal.{Refusal}
 use Rattle.network.specs.declared.Refusal.TheVariants.{BufferTooShort, InvalidState, Harm}
@@ -28,7 +28,7 @@ use Rattle.network.specs.Refusals.{number_of, said}
 use Rattle.network.specs.Tests.{member, first}
 use Rattle.network.specs.State.{arity_of, state_test}
 use Rattle.network.specs.Valid.{Shaped}
-use Rattle.network.specs.Load.{load_of}
+use Rattle.network.specs.Load.{session_of, load_of}
 use Rattle.network.specs.Write.{bytes_of}
 use Rattle.network.specs.Calls.{gate_test, harm_test, lengths_test, pairs, pairs_test, verdict_of, verdict_on, gate_tables, filled, room_test, set_words, pattern_sets_of, write_of}
 use Rattle.network.specs.Lists.{FirstFault}
@@ -62,10 +62,10 @@ gives : {a : Answer} (given new buffer out : List ℕ) → a ≡ Done → length
     → Gives (left a given new buffer out) new buffer given out
 gives given new buffer out e b o = (b, o, rw e)
 
-read-gives : {l : Result Session Refusal} {ns : List ℕ} → Reader l ns → (session : List ℕ) → l.answer ≡ Done → session_words ≤ length session
-    → Gives (read_call l session) (packed_of l.session) session [] []
+read-gives : {l : Result Session Refusal} {ns : List ℕ} → Reader l ns → (session : List ℕ) → answer_of l ≡ Done → session_words ≤ length session
+    → Gives (read_call l session) (packed_of (session_of l)) session [] []
 read-gives {l} reads session e h =
-    gives [] (packed_of l.session) session [] (clear-i (l.answer ∷ room_test session_words session ∷ []) (e, (room-i session_words session h, tt)))
+    gives [] (packed_of (session_of l)) session [] (clear-i (answer_of l ∷ room_test session_words session ∷ []) (e, (room-i session_words session h, tt)))
     (read-room l session (reads.sized e) h) (omega arith)
 
 listing-gives : (file text out : List ℕ) → 1 ≤ length out → length (listing_of file) ≤ length text
@@ -226,10 +226,10 @@ write-passed ws file out =
 read-holds : {l : Result Session Refusal} {ns : List ℕ} → Reader l ns → (session : List ℕ) (t : Session) → l ≡ Ok t → session_words ≤ length session
     → ((read_call l session).number ≡ 0) × (session_in (read_call l session).buffer ≡ t)
 read-holds {l} reads session t e room =
-    let done = ap (λ (x : Result Session Refusal). x.answer) e in
+    let done = ap answer_of e in
     let is = (read-gives reads session done room).2 in
-    let same = ap (λ (x : Result Session Refusal). x.session) e in
-    (ap (λ (x : Left). x.number) is, ap (λ (x : Left). session_in x.buffer) is ∙ packed-back l.session (drop (length (packed_of l.session)) session) (reads.sized done) ∙ same)
+    let same = ap session_of e in
+    (ap (λ (x : Left). x.number) is, ap (λ (x : Left). session_in x.buffer) is ∙ packed-back (session_of l) (drop (length (packed_of (session_of l))) session) (reads.sized done) ∙ same)
 
 module _ (ws file out session : List ℕ) (h : Words ws) (e : (write_call ws file out).number ≡ 0) (room : session_words ≤ length session) where
   abbrev again : Left

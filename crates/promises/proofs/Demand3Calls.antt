@@ -12,7 +12,7 @@ use lib.Seq.{drop_at}
 use Rattle.bits.specs.Lists.{overwritten}
 use Rattle.bits.proofs.Ranges.{by_cases}
 use Rattle.std.specs.Prelude.{Result, Ok, Err}
-use Rattle.network.specs.Answer.{Answer, Done}
+use Rattle.network.specs.Answer.{Answer, Done, answer_of, given_or}
 use Rattle.network.specs.declared.Refusal.{Refusal}
 use Rattle.network.specs.declared.Session.{Session}
 use Rattle.network.specs.Net.{Net, output, Replacement}
@@ -20,10 +20,10 @@ use Rattle.network.specs.Flat.{loaded_net, current_net}
 use Rattle.network.specs.Valid.{Sized, Narrow}
 use Rattle.network.specs.Tests.{or_else, first}
 use Rattle.network.specs.State.{state_test}
-use Rattle.network.specs.Load.{load_of}
+use Rattle.network.specs.Load.{session_of, load_of}
 use Rattle.network.specs.Write.{bytes_of}
 use Rattle.network.specs.Calls.{stored, exchange_answer, exchanged, exchange_of, room_test, filled}
-use Rattle.network.specs.Sessions.{after, answers, answer_by}
+use Rattle.network.specs.Sessions.{next, after, answers, answer_by}
 use Rattle.network.proofs.TestLaws.{clear-e}
 use Rattle.network.proofs.Fresh.{Fresh}
 use Rattle.network.proofs.Valid.{state-i}
@@ -53,7 +53,7 @@ over-length new ws h = simp (length-append, length-drop) (omega arith)
 holds-packed : (s : Session) (ws : List ℕ) → Sized s → Narrow s → state_test s ≡ Done → Holds (overwritten (packed_of s) ws) s
 holds-packed s ws z b v = record {
   session = packed-back s (drop (length (packed_of s)) ws) z;
-  passes = sym (unpack-answer (overwritten (packed_of s) ws)) ∙ ap (λ (l : Result Session Refusal). l.answer) (unpacks s ws z b v);
+  passes = sym (unpack-answer (overwritten (packed_of s) ws)) ∙ ap (λ (l : Result Session Refusal). (answer_of l)) (unpacks s ws z b v);
 }
 
 module _ {ws : List ℕ} {s : Session} (h : Holds ws s) where
@@ -98,7 +98,7 @@ heads : {a b : Answer} {xs ys : List Answer} → a ∷ xs ≡ b ∷ ys → (a �
 heads e = ((cc), (cc))
 
 module _ {N : Net} {s : Session} (y : Steady N s) where
-  steady-next : (r : Replacement) → Steady N (exchange_of s r).session
+  steady-next : (r : Replacement) → Steady N (next s r)
   steady-next r = record {
     answered = λ rs. (heads (y.answered (r ∷ rs))).1;
     sized = λ rs. y.sized (r ∷ rs);
@@ -110,7 +110,7 @@ module _ {N : Net} {s : Session} (y : Steady N s) where
   unfolding exchange_of
   steady-answer r = sym (given (exchange_answer s r)) ∙ (heads (y.answered (r ∷ []))).0
     where
-      given : (a : Answer) → (exchanged a s r).answer ≡ a
+      given : (a : Answer) → answer_of (exchanged a s r) ≡ a
       given (Ok _) = refl
       given (Err f) = refl
 
@@ -126,7 +126,7 @@ steady-after (r ∷ rs) y = steady-after rs (steady-next y r)
 
 after-append : (qs rs : List Replacement) (s : Session) → after (after s qs) rs ≡ after s (qs ++ rs)
 after-append [] rs s = refl
-after-append (q ∷ qs) rs s = after-append qs rs (exchange_of s q).session
+after-append (q ∷ qs) rs s = after-append qs rs (next s q)
 
 -- ## One exchange call
 
@@ -136,7 +136,7 @@ made a = cond (ltb (length a.out) 1) [] (a.exchange ∷ [])
 
 module _ {N : Net} {ws : List ℕ} {s : Session} (h : Holds ws s) (y : Steady N s) where
   -- an exchange with this answer packs the session that it hands on
-  packs : (r : Replacement) (a : Answer) → (filled (or_else a Done) (packed_of (stored s r)) ws).buffer ≡ overwritten (packed_of (exchanged a s r).session) ws
+  packs : (r : Replacement) (a : Answer) → (filled (or_else a Done) (packed_of (stored s r)) ws).buffer ≡ overwritten (packed_of (given_or s (exchanged a s r))) ws
   packs r (Ok _) = refl
   packs r (Err f) = sym (held_same h)
 
@@ -146,7 +146,7 @@ module _ {N : Net} {ws : List ℕ} {s : Session} (h : Holds ws s) (y : Steady N 
       let r = a.exchange in
       by_cases (ltb (length a.out) 1)
       (λ e. rw e (sym (held_same h)))
-      (λ e. rw e (packs r (answer_by N r) ∙ ap (λ (b : Answer). overwritten (packed_of (exchanged b s r).session) ws) (sym (steady-answer y r))))
+      (λ e. rw e (packs r (answer_by N r) ∙ ap (λ (b : Answer). overwritten (packed_of (given_or s (exchanged b s r))) ws) (sym (steady-answer y r))))
 
   -- what it leaves: number and `out` by N alone, and the words of the session after it
   call-left : (a : Asked)
@@ -251,31 +251,31 @@ module _ {ws : List ℕ} {s : Session} (at : Ready ws s) where
 
 -- a call that gives 0 read a network, and packed its session over the words that it was lent
 read_done : (l : Result Session Refusal) (session : List ℕ) → (read_call l session).number ≡ 0
-    → (l ≡ Ok l.session) × ((read_call l session).buffer ≡ overwritten (packed_of l.session) session)
+    → (l ≡ Ok (session_of l)) × ((read_call l session).buffer ≡ overwritten (packed_of (session_of l)) session)
 read_done l session z =
     let a = zero-done (read_answer l session) z in
-    let c = clear-e (l.answer ∷ room_test session_words session ∷ []) a in
-    (done-whole l c.0, ap (λ (b : Answer). (filled b (packed_of l.session) session).buffer) a)
+    let c = clear-e (answer_of l ∷ room_test session_words session ∷ []) a in
+    (done-whole l c.0, ap (λ (b : Answer). (filled b (packed_of (session_of l)) session).buffer) a)
 
 -- where what it read is as a load gives it
 read-ready : (l : Result Session Refusal) (session : List ℕ) → (read_call l session).number ≡ 0 → ((s : Session) → l ≡ Ok s → (bytes : List ℕ) × (load_of bytes ≡ Ok s))
-    → Ready (read_call l session).buffer l.session
+    → Ready (read_call l session).buffer (session_of l)
 read-ready l session z loads =
-    let s = l.session in
+    let s = session_of l in
     let r = read_done l session z in
     let f = loads s r.0 in
     rw r.1 (ready s session (loaded-fresh f.0 s f.1) (loaded-sized f.0 s f.1) (loaded-narrow f.0 s f.1))
 
-pub loaded-ready : (file session : List ℕ) → (load_call file session).number ≡ 0 → Ready (load_call file session).buffer (load_of file).session
+pub loaded-ready : (file session : List ℕ) → (load_call file session).number ≡ 0 → Ready (load_call file session).buffer (session_of (load_of file))
 unfolding load_call
 loaded-ready file session z = read-ready (load_of file) session z (λ s e. (file, e))
 
-pub blif-ready : (text session : List ℕ) → (read_blif_call text session).number ≡ 0 → Ready (read_blif_call text session).buffer (read_blif_of text).session
+pub blif-ready : (text session : List ℕ) → (read_blif_call text session).number ≡ 0 → Ready (read_blif_call text session).buffer (session_of (read_blif_of text))
 unfolding read_blif_call
 blif-ready text session z = read-ready (read_blif_of text) session z (λ s e. (bytes_of s, blif-words text s e))
 
-from-ready : (l : Result Session Refusal) (c : Left) (list : List Asked) → l ≡ Ok l.session → Ready c.buffer l.session → Demand3From l c list
-from-ready l c list e at = (e, at.holds, demand3 l.session at.fresh (roomy list), demand3-calls at list)
+from-ready : (l : Result Session Refusal) (c : Left) (list : List Asked) → l ≡ Ok (session_of l) → Ready c.buffer (session_of l) → Demand3From l c list
+from-ready l c list e at = (e, at.holds, demand3 (session_of l) at.fresh (roomy list), demand3-calls at list)
 
 pub demand3-of-calls : Demand3OfCalls
 unfolding load_call read_blif_call

@@ -6,7 +6,8 @@ use native.Mathlib.Omega.{arith}
 use lib.ListN.{length}
 use Rattle.bits.specs.Lists.{overwritten}
 use Rattle.std.specs.Prelude.{Result, Ok, Err}
-use Rattle.network.specs.Answer.{Answer, Done, onward}
+use Rattle.network.specs.Answer.{Answer, Done, answer_of, giving}
+use Rattle.network.specs.Load.{session_of}
 use Rattle.network.specs.declared.Session.{Session}
 use Rattle.network.specs.declared.Refusal.{Refusal}
 use Rattle.network.specs.Refusals.{number_of, values_of}
@@ -53,24 +54,24 @@ room-passed x needed buffer f h =
 
 module _ (ws : List ℕ) {l : Result Session Refusal} (e : l ≡ unpack_of ws) where
   -- tests of what the words hold are tests of what was unpacked
-  same_tests : (f : Session → List Answer) → first (l.answer ∷ f l.session) ≡ first (words_test ws ∷ f (session_in ws))
+  same_tests : (f : Session → List Answer) → first (answer_of l ∷ f (session_of l)) ≡ first (words_test ws ∷ f (session_in ws))
   unfolding unpack_of
   same_tests f = rw e (go (words_test ws))
     where
-      go : (w : Answer) → first ((onward w (Ok (session_in ws))).answer ∷ f (onward w (Ok (session_in ws))).session) ≡ first (w ∷ f (session_in ws))
+      go : (w : Answer) → first (answer_of (giving w (session_in ws)) ∷ f (session_of (giving w (session_in ws)))) ≡ first (w ∷ f (session_in ws))
       go (Ok _) = refl
       go (Err r) = refl
 
-  words-fine : l.answer ≡ Done → words_test ws ≡ Done
+  words-fine : answer_of l ≡ Done → words_test ws ≡ Done
   words-fine h = alone (words_test ws) ∙ sym (same_tests (λ s. [])) ∙ rw h
 
-  held : l.answer ≡ Done → l.session ≡ session_in ws
+  held : answer_of l ≡ Done → session_of l ≡ session_in ws
   unfolding unpack_of
-  held h = ap (λ (x : Result Session Refusal). x.session) e ∙ rw (words-fine h)
+  held h = ap session_of e ∙ rw (words-fine h)
 
 -- `a` is the answer of the words and of the room
 module _ (work : Session → Work) (ws buffer out : List ℕ) {l : Result Session Refusal} {a : Answer}
-    (e : l ≡ unpack_of ws) (f : a ≡ first (l.answer ∷ room_test (work l.session).room out ∷ [])) where
+    (e : l ≡ unpack_of ws) (f : a ≡ first (answer_of l ∷ room_test (work (session_of l)).room out ∷ [])) where
   abbrev tests : Session → List Answer
   tests s = room_test (work s).room out ∷ []
 
@@ -84,15 +85,15 @@ module _ (work : Session → Work) (ws buffer out : List ℕ) {l : Result Sessio
 
   -- what is known where it is Done
   pub record Open : Type 0 where
-    pub valid : state_test l.session ≡ Done
+    pub valid : state_test (session_of l) ≡ Done
     pub long : session_words ≤ length ws
-    pub room : (work l.session).room ≤ length out
-    pub holds : l.session ≡ session_in ws
-    pub leaves : {k : ℕ} {b o : List ℕ} → Leaves (worked (work l.session) buffer out) k b o → Leaves (on_session work ws buffer out) k b o
+    pub room : (work (session_of l)).room ≤ length out
+    pub holds : session_of l ≡ session_in ws
+    pub leaves : {k : ℕ} {b o : List ℕ} → Leaves (worked (work (session_of l)) buffer out) k b o → Leaves (on_session work ws buffer out) k b o
 
   pub opens : a ≡ Done → Open
   opens h =
-      let c = room-passed l.answer (work l.session).room out f h in
+      let c = room-passed (answer_of l) (work (session_of l)).room out f h in
       let q = held ws e c.0 in
       let s = session_in ws in
       let w = words-fine ws e c.0 in

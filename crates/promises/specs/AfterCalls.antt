@@ -8,7 +8,7 @@ use Rattle.network.specs.DontCares.{sdc, cdc, full}
 use Rattle.network.specs.Compatible.{open_table}
 use Rattle.network.specs.Flat.{loaded_net, current_net}
 use Rattle.network.specs.Tests.{member}
-use Rattle.network.specs.Load.{load_of}
+use Rattle.network.specs.Load.{session_of, load_of}
 use Rattle.network.specs.Calls.{fits, alters}
 use Rattle.network.specs.Sessions.{after, picked}
 use Rattle.blif.specs.Read.{read_blif_of}
@@ -46,6 +46,6 @@ pub record AfterCalls (ws : List ℕ) (s : Session) (list : List Asked) : Type 0
 
 pub record AfterCallsOf : Type 0 where
   pub load : (file session : List ℕ) (list : List Asked) → (load_call file session).number ≡ 0
-      → AfterCalls (load_call file session).buffer (load_of file).session list
+      → AfterCalls (load_call file session).buffer (session_of (load_of file)) list
   pub read_blif : (text session : List ℕ) (list : List Asked) → (read_blif_call text session).number ≡ 0
-      → AfterCalls (read_blif_call text session).buffer (read_blif_of text).session list
+      → AfterCalls (read_blif_call text session).buffer (session_of (read_blif_of text)) list

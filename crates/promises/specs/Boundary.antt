@@ -4,7 +4,7 @@ use Rattle.std.specs.Prelude.{List, [], ◌∷◌, ◌++◌, ℕ, zero, suc, ◌
 use Rattle.bits.specs.Range.{places}
 use Rattle.bits.specs.Lists.{overwritten}
 use Rattle.std.specs.Prelude.{Result, Ok, Err}
-use Rattle.network.specs.Answer.{Answer}
+use Rattle.network.specs.Answer.{Answer, answer_of}
 use Rattle.network.specs.declared.Refusal.{Refusal}
 use Rattle.network.specs.declared.Session.{Session}
 use Rattle.network.specs.declared.Tables.{Tables}
@@ -13,7 +13,7 @@ use Rattle.network.specs.Compatible.{compatible_count}
 use Rattle.network.specs.Flat.{loaded_net}
 use Rattle.network.specs.Refusals.{number_of, values_of}
 use Rattle.network.specs.Tests.{first}
-use Rattle.network.specs.Load.{load_of}
+use Rattle.network.specs.Load.{session_of, load_of}
 use Rattle.network.specs.Write.{bytes_of}
 use Rattle.network.specs.Calls.{gate_test, exchange_answer, stored, verdict_of, gate_tables, room_test, filled, set_words, pattern_sets_of, write_of}
 use Rattle.blif.specs.Read.{read_blif_of}
@@ -51,10 +51,10 @@ left a given new buffer out = record {
 
 -- what was read: its refusals come before the session's room
 abbrev pub read_answer : Result Session Refusal → (session : List ℕ) → Answer
-read_answer l session = first (l.answer ∷ room_test session_words session ∷ [])
+read_answer l session = first (answer_of l ∷ room_test session_words session ∷ [])
 
 abbrev pub read_call : Result Session Refusal → (session : List ℕ) → Left
-read_call l session = left (read_answer l session) [] (packed_of l.session) session []
+read_call l session = left (read_answer l session) [] (packed_of (session_of l)) session []
 
 unfoldable pub load_call : (file session : List ℕ) → Left
 load_call file session = read_call (load_of file) session

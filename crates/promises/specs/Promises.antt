@@ -5,7 +5,7 @@ use Rattle.bits.specs.Range.{places}
 use Rattle.bits.specs.Lists.{overwritten}
 use Rattle.bits.specs.Bit.{bit}
 use Rattle.std.specs.Prelude.{Result, Ok}
-use Rattle.network.specs.Answer.{Answer, Done}
+use Rattle.network.specs.Answer.{Answer, Done, answer_of}
 use Rattle.network.specs.declared.Session.{Session}
 use Rattle.network.specs.declared.Refusal.{Refusal}
 use Rattle.network.specs.Net.{Net, arity, is_gate, gate as gate_of, patterns, excluded_for, output, Replacement}
@@ -15,7 +15,7 @@ use Rattle.network.specs.Flat.{loaded_net, current_net}
 use Rattle.network.specs.Refusals.{number_of, said}
 use Rattle.network.specs.Tests.{member, first}
 use Rattle.network.specs.State.{arity_of}
-use Rattle.network.specs.Load.{load_of}
+use Rattle.network.specs.Load.{session_of, load_of}
 use Rattle.network.specs.Write.{bytes_of}
 use Rattle.network.specs.Calls.{pairs, gate_tables, stored, room_test, set_words}
 use Rattle.network.specs.Lists.{Sound, FirstFault}
@@ -52,10 +52,10 @@ Ends l new buffer given out numbers = Gives l new buffer given out ⊎ Refuses l
 pub record Demand1Calls : Type 0 where
   -- a loaded network
   pub load : (file session : List ℕ)
-      → Ends (load_call file session) (packed_of (load_of file).session) session [] [] (1 ∷ 2 ∷ 3 ∷ 4 ∷ 5 ∷ 6 ∷ 7 ∷ 8 ∷ 9 ∷ [])
+      → Ends (load_call file session) (packed_of (session_of (load_of file))) session [] [] (1 ∷ 2 ∷ 3 ∷ 4 ∷ 5 ∷ 6 ∷ 7 ∷ 8 ∷ 9 ∷ [])
   -- of a BLIF text too
   pub read_blif : (text session : List ℕ)
-      → Ends (read_blif_call text session) (packed_of (read_blif_of text).session) session [] [] (3 ∷ 17 ∷ 18 ∷ 9 ∷ [])
+      → Ends (read_blif_call text session) (packed_of (session_of (read_blif_of text))) session [] [] (3 ∷ 17 ∷ 18 ∷ 9 ∷ [])
   -- a listing, with its length
   pub listing : (file text out : List ℕ) → Ends (listing_call file text out) (listing_of file) text (length (listing_of file) ∷ []) out (9 ∷ [])
   -- the tables of a gate, and of all gates
@@ -92,10 +92,10 @@ Asks ws rs = (words_test ws ≡ Done) × Sound (loaded_net (session_in ws)) [] r
 
 pub record Demand2Calls : Type 0 where
   -- wherever it can, a call gives what 01 defines
-  pub load : (file session : List ℕ) → (load_of file).answer ≡ Done → session_words ≤ length session
-      → Gives (load_call file session) (packed_of (load_of file).session) session [] []
-  pub read_blif : (text session : List ℕ) → (read_blif_of text).answer ≡ Done → session_words ≤ length session
-      → Gives (read_blif_call text session) (packed_of (read_blif_of text).session) session [] []
+  pub load : (file session : List ℕ) → answer_of (load_of file) ≡ Done → session_words ≤ length session
+      → Gives (load_call file session) (packed_of (session_of (load_of file))) session [] []
+  pub read_blif : (text session : List ℕ) → answer_of (read_blif_of text) ≡ Done → session_words ≤ length session
+      → Gives (read_blif_call text session) (packed_of (session_of (read_blif_of text))) session [] []
   pub listing : (file text out : List ℕ) → 1 ≤ length out → length (listing_of file) ≤ length text
       → Gives (listing_call file text out) (listing_of file) text (length (listing_of file) ∷ []) out
   pub tables : (ws : List ℕ) (gate : ℕ) (out : List ℕ) → words_test ws ≡ Done → is_gate (loaded_net (session_in ws)) gate ≡ true → 5 ≤ length out
@@ -148,7 +148,7 @@ pub record Demand2Calls : Type 0 where
       let l = load_call (take (get_or w.out 0 0) w.buffer) session in
       (l.number ≡ 0) × (loaded_net (session_in l.buffer) ≡ current_net (session_in ws)) × (current_net (session_in l.buffer) ≡ current_net (session_in ws))
   -- request Five: a file that the old reader answers with anything but 2 gets that answer, and the words of the same session
-  pub old_files : (file session : List ℕ) → (said (old_load_of file).answer ≡ 2 ∷ [] → ⊥) → load_call file session ≡ read_call (old_load_of file) session
+  pub old_files : (file session : List ℕ) → (said (old_load_of file) ≡ 2 ∷ [] → ⊥) → load_call file session ≡ read_call (old_load_of file) session
   -- a network of gates with up to four fan-ins is written with the bytes that the old writer gave
   pub old_written : (ws file out : List ℕ) → let s = session_in ws in
       words_test ws ≡ Done → ((g : ℕ) → g < s.m → arity_of s g ≤ 4) → 1 ≤ length out → length (old_bytes_of s) ≤ length file
@@ -213,7 +213,7 @@ pub record Demand3Calls (ws : List ℕ) (s : Session) (list : List Asked) : Type
 
 -- the words that a call left hold the session that it read, and the demand holds of them
 abbrev pub Demand3From : Result Session Refusal → Left → List Asked → Type 0
-Demand3From l c list = let s = l.session in (l ≡ Ok s) × Holds c.buffer s × Demand3 s (roomy list) × Demand3Calls c.buffer s list
+Demand3From l c list = let s = session_of l in (l ≡ Ok s) × Holds c.buffer s × Demand3 s (roomy list) × Demand3Calls c.buffer s list
 
 -- of every file that loads and every BLIF text that reads, into every buffer
 pub record Demand3OfCalls : Type 0 where

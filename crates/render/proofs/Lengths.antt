@@ -7,15 +7,16 @@ use lib.ListN.{length, length-append}
 use Rattle.buffer.specs.Laid.{Laid}
 use Rattle.text.specs.Fields.{number}
 use Rattle.text.proofs.Digits.{length-number}
-use Rattle.network.specs.declared.Answer.{Answer}
-use Rattle.network.specs.declared.Answer.TheVariants.{Done, Refused}
+use Rattle.std.specs.Prelude.{Result, Ok, Err}
+use Rattle.network.specs.declared.Refusal.{Refusal}
+use Rattle.network.specs.declared.Session.{Session}
 use Rattle.network.specs.Bounds.{most_gates}
 use Rattle.network.specs.Net.{Net}
 use Rattle.network.specs.DontCares.{cdc, full}
 use Rattle.network.specs.Compatible.{compatible_count, open_table}
 use Rattle.network.specs.Flat.{loaded_net}
 use Rattle.network.specs.Refusals.{number_of}
-use Rattle.network.specs.Load.{load_of}
+use Rattle.network.specs.Load.{session_of, load_of}
 use Rattle.network.specs.Calls.{Filled}
 use Rattle.network.proofs.Valid.{net-ok}
 use Rattle.network.proofs.Exchanges.{loaded-length}
@@ -51,17 +52,16 @@ module _ (N : Net) where
       let q = length-totals f o in
       omega arith
 
-length-for : (bytes : List ℕ) (a : Answer) → (load_of bytes).answer ≡ a → length (listing_of bytes) ≤ most_listing_bytes
-length-for bytes Done e =
-    let s = (load_of bytes).session in
-    let v = net-ok s (fresh bytes (load_of bytes) refl e).valid in
+length-for : (bytes : List ℕ) (l : Result Session Refusal) → l ≡ load_of bytes → length (listing_of bytes) ≤ most_listing_bytes
+length-for bytes (Ok s) e =
+    let v = net-ok s (fresh bytes e).valid in
     let few = v.most in
     let m = loaded-length s in
-    rw (listing-loaded bytes (load_of bytes) refl e) (length-net (loaded_net s) (omega arith))
-length-for bytes (Refused r) e = rw (listing-refused bytes (load_of bytes) refl r e) (length-refused (number_of r))
+    rw (listing-loaded bytes e) (length-net (loaded_net s) (omega arith))
+length-for bytes (Err r) e = rw (listing-refused bytes e) (length-refused (number_of r))
 
 pub listing-length : ListingLength
-listing-length bytes = length-for bytes (load_of bytes).answer refl
+listing-length bytes = length-for bytes (load_of bytes) refl
 
 pub listing-room : ListingRoom
 listing-room bytes buffer h =

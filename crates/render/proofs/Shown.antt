@@ -9,9 +9,10 @@ use Rattle.bits.specs.Bounds.{most_inputs}
 use Rattle.bits.specs.Range.{count}
 use Rattle.bits.specs.Bit.{bit}
 use Rattle.bits.specs.Lists.{overwritten}
+use Rattle.std.specs.Prelude.{Result, Err}
+use Rattle.std.specs.Prelude.{Ok}
+use Rattle.network.specs.Answer.{Done, answer_of}
 use Rattle.network.specs.declared.Session.{Session}
-use Rattle.network.specs.declared.Loaded.{Loaded}
-use Rattle.network.specs.declared.Answer.TheVariants.{Done, Refused}
 use Rattle.network.specs.declared.Refusal.{Refusal}
 use Rattle.network.specs.declared.Refusal.TheVariants.{BufferTooShort}
 use Rattle.network.specs.Bounds.{most_gates, most_entries}
@@ -20,7 +21,7 @@ use Rattle.network.specs.DontCares.{cdc, full}
 use Rattle.network.specs.Compatible.{compatible_count, open_table, open_tables}
 use Rattle.network.specs.Flat.{loaded_net, current_net}
 use Rattle.network.specs.Refusals.{number_of}
-use Rattle.network.specs.Load.{load_of}
+use Rattle.network.specs.Load.{session_of, load_of}
 use Rattle.network.specs.State.{state_fault}
 use Rattle.network.specs.Calls.{counts_of}
 use Rattle.network.proofs.Valid.{state-i}
@@ -78,7 +79,7 @@ current-loaded s e = rw e
 module _ (s : Session) (t : Columns) (valid : state_fault s ≡ Done) (same : s.current ≡ s.loaded) (held : s.open_tables ≡ open_tables (loaded_net s))
     (few : s.m ≤ most_gates) (en : t.n ≡ s.n) (em : t.m ≡ s.m) (ed : t.digits ≡ digits (loaded_net s))
     (k : Tabled (current_net s) t.cdc t.full s.n 0 s.m)
-    (eo : t.opens ≡ s.open_tables) (eh : t.hidden ≡ (counts_of s).counts) where
+    (eo : t.opens ≡ s.open_tables) (eh : t.hidden ≡ pattern_counts s) where
   pub shown : Shows (loaded_net s) t
   shown =
       let N = loaded_net s in
@@ -109,30 +110,37 @@ shows-ready N t v i m = record {
 
 -- ## The listing of bytes
 
-module _ (bytes : List ℕ) (l : Loaded) (e : l ≡ load_of bytes) where
-  pub fresh : l.answer ≡ Done → Fresh l.session
-  fresh a = loaded-fresh bytes l.session (sym e ∙ ap (λ x. record { answer = x; session = l.session }) a)
+module _ (bytes : List ℕ) {s : Session} (e : Ok s ≡ load_of bytes) where
+  pub fresh : Fresh s
+  fresh = loaded-fresh bytes s (sym e)
 
-  pub listing-loaded : l.answer ≡ Done → listing_of bytes ≡ listing_of_net (loaded_net l.session)
+  pub listing-loaded : listing_of bytes ≡ listing_of_net (loaded_net s)
   unfolding listing_of
-  listing-loaded a = rw (← e, a)
+  listing-loaded = rw (← e)
 
-  pub listing-refused : (r : Refusal) → l.answer ≡ Refused r → listing_of bytes ≡ refused_line (number_of r)
+module _ (bytes : List ℕ) where
+  pub listing-refused : {r : Refusal} → Err r ≡ load_of bytes → listing_of bytes ≡ refused_line (number_of r)
   unfolding listing_of
-  listing-refused r a = rw (← e, a)
+  listing-refused e = rw (← e)
 
-module _ (bytes : List ℕ) (c : Counted) (e : c ≡ counted_of bytes) where
-  pub counted-load : c.loaded ≡ load_of bytes
+  pub counted-load : {c : Counted} → Ok c ≡ counted_of bytes → (Ok c.session ≡ load_of bytes) × (c.counts ≡ pattern_counts c.session)
   unfolding counted_of
-  counted-load = ap {B = Loaded} (λ (x : Counted). x.loaded) e
+  counted-load {c} e = go (load_of bytes) e
+    where
+      go : (l : Result Session Refusal) → Ok c ≡ counted l → (Ok c.session ≡ l) × (c.counts ≡ pattern_counts c.session)
+      go (Ok s) e = let q : c ≡ record { session = s; counts = pattern_counts s } = cc in (rw q, rw q)
+      go (Err r) e = refused-done r (ap answer_of (sym e))
 
-  pub counted-counts : c.counts ≡ (counts_of c.loaded.session).counts
+  pub counted-refused : {r : Refusal} → Err r ≡ counted_of bytes → Err r ≡ load_of bytes
   unfolding counted_of
-  counted-counts =
-      ap {B = List ℕ} (λ (x : Counted). x.counts) e ∙ ap {B = List ℕ} (λ (x : Loaded). (counts_of x.session).counts) (sym counted-load)
+  counted-refused {r} e = go (load_of bytes) e
+    where
+      go : (l : Result Session Refusal) → Err r ≡ counted l → Err r ≡ l
+      go (Ok s) e = refused-done r (ap answer_of e)
+      go (Err f) e = let q : ◌≡◌ {A = Refusal} r f = cc in rw q
 
 module _ (bytes buffer : List ℕ) where
-  pub into-short : length buffer < length (listing_of bytes) → listing_into bytes buffer ≡ record { answer = Refused BufferTooShort; buffer = buffer }
+  pub into-short : length buffer < length (listing_of bytes) → listing_into bytes buffer ≡ record { answer = Err BufferTooShort; buffer = buffer }
   unfolding listing_into
   into-short h = rw (lt-ltb (length buffer) (length (listing_of bytes)) h)
 

@@ -4,16 +4,17 @@ use Rattle.bits.specs.Range.{count}
 use Rattle.bits.specs.Bit.{bit}
 use Rattle.text.specs.Ascii.{ascii}
 use Rattle.text.specs.Numbers.{word_digits, hex, decimal}
+use Rattle.std.specs.Prelude.{Result, Ok, Err}
+use Rattle.network.specs.Answer.{Done}
+use Rattle.network.specs.declared.Refusal.{Refusal}
 use Rattle.network.specs.declared.Session.{Session}
-use Rattle.network.specs.declared.Answer.{Answer}
-use Rattle.network.specs.declared.Answer.TheVariants.{Done, Refused}
 use Rattle.network.specs.Bounds.{most_gates, most_entries}
 use Rattle.network.specs.Net.{Net}
 use Rattle.network.specs.DontCares.{cdc, full}
 use Rattle.network.specs.Compatible.{compatible_count, open_table}
 use Rattle.network.specs.Flat.{loaded_net}
 use Rattle.network.specs.Refusals.{number_of}
-use Rattle.network.specs.Load.{load_of}
+use Rattle.network.specs.Load.{session_of, load_of}
 use Rattle.network.specs.Calls.{Filled, room_test, filled}
 use Rattle.tabletext.specs.Digits.{digits}
 
@@ -54,13 +55,13 @@ listing_of_net N =
     let m = length N.gates in
     header ++ rows N m ++ totals (set_entries (λ g. full N (N.inputs + g)) m) (set_entries (λ g. open_table N (N.inputs + g)) m)
 
-abbrev pub listing_for : Answer → Session → List ℕ
-listing_for Done s = listing_of_net (loaded_net s)
-listing_for (Refused r) s = refused_line (number_of r)
+abbrev pub listing_for : Result Session Refusal → List ℕ
+listing_for (Ok s) = listing_of_net (loaded_net s)
+listing_for (Err r) = refused_line (number_of r)
 
 -- a refused file prints one line only
 unfoldable pub listing_of : List ℕ → List ℕ
-listing_of bytes = listing_for (load_of bytes).answer (load_of bytes).session
+listing_of bytes = listing_for (load_of bytes)
 
 -- the text from the start of a lent buffer, the rest stays; 9 where it is shorter than the text
 unfoldable pub listing_into : List ℕ → List ℕ → Filled

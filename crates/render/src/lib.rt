@@ -3,16 +3,16 @@
 
 ghost use Rattle.std.specs.Prelude.{◌≡◌, ◌+◌, ◌*◌, ◌<◌, ◌≤◌, length};
 ghost use Rattle.buffer.specs.Laid.{Laid};
-ghost use Rattle.network.specs.declared.Answer.TheVariants.{Done};
+ghost use Rattle.network.specs.Answer.{Done};
 ghost use Rattle.network.specs.Bounds.{most_gates, most_entries};
 ghost use Rattle.network.specs.Compatible.{open_tables};
 ghost use Rattle.network.specs.Flat.{loaded_net};
 ghost use Rattle.network.specs.State.{state_fault};
-ghost use Rattle.network.specs.Calls.{counts_of, with_length};
+ghost use Rattle.network.specs.Calls.{pattern_counts, with_length};
 ghost use Rattle.render.specs.Listing.{header, totals, refused_line, listing_of_net, listing_of, listing_into, most_row_bytes, most_listing_bytes};
 ghost use Rattle.render.specs.Text.{entries_in, row_at, rows_at, set_in, text_of, Ready};
 
-use network::{Answer, MOST_GATES, Refusal, Session, WriteAnswer};
+use network::{MOST_GATES, Refusal, Session};
 use text::WORD_DIGITS;
 
 // The most bytes of a row, decimal numbers taken with four digits and tables with sixteen, and of a listing: of the header, of a row
@@ -122,7 +122,7 @@ fn put_text(buf: &mut [u8], t: Columns) -> usize
 // What a session shows once it is loaded, with the counts of its gates.
 fn columns_of(s: Session, hidden: [u16; MOST_GATES]) -> Columns
     requires s_value { (state_fault s ≡ Done) × (s.current ≡ s.loaded) × (s.open_tables ≡ open_tables (loaded_net s)) }
-    requires hidden_value { hidden ≡ (counts_of s).counts }
+    requires hidden_value { hidden ≡ pattern_counts s }
     ensures { Ready result × (text_of result ≡ listing_of_net (loaded_net s)) }
 {
     let t = dontcares::all_tables(s);
@@ -154,27 +154,24 @@ pub fn put_listing(buf: &mut [u8], bytes: &[u8]) -> usize
     requires { most_listing_bytes ≤ length buf.old }
     ensures { Laid buf.old 0 (listing_of bytes.now) buf.new result }
 {
-    let c = loading::load_counted(bytes);
-    let l = c.loaded;
-    let a = l.answer;
-    if let Answer::Refused(r) = a {
-        return put_refusal(buf, network::number_of(r));
+    match loading::load_counted(bytes) {
+        Ok(c) => {
+            let t = columns_of(c.session, c.counts);
+            put_text(buf, t)
+        }
+        Err(r) => put_refusal(buf, network::number_of(r)),
     }
-    let s = l.session;
-    let hidden = c.counts;
-    let t = columns_of(s, hidden);
-    put_text(buf, t)
 }
 
 // The listing from the start of the buffer, with its length; the rest of the buffer stays.
-pub fn listing(bytes: &[u8], buf: &mut [u8]) -> WriteAnswer
+pub fn listing(bytes: &[u8], buf: &mut [u8]) -> Result<usize, Refusal>
     ensures { record { answer = result; buffer = buf.new } ≡ with_length (length (listing_of bytes.now)) (listing_into bytes.now buf.old) }
 {
     let mut text = [0u8; MOST_LISTING_BYTES];
     let n = put_listing(&mut text, bytes);
     if buf.len() < n {
-        return WriteAnswer::Refused(Refusal::BufferTooShort);
+        return Err(Refusal::BufferTooShort);
     }
     let k = buffer::copy(buf, 0, &text[0..n]);
-    WriteAnswer::Written(k)
+    Ok(k)
 }

@@ -2,8 +2,8 @@
 use mathlib.Core.Path.{◌≡◌}
 use Prim.Native.Nat.{ℕ}
 use lib.ListN.{get_or}
-use Rattle.network.specs.declared.Answer.{Answer}
-use Rattle.network.specs.declared.Answer.TheVariants.{Refused}
+use Rattle.std.specs.Prelude.{Err}
+use Rattle.network.specs.Answer.{Answer}
 use Rattle.network.specs.declared.Refusal.{Refusal}
 use Rattle.network.specs.Refusals.{values_of}
 use Rattle.buffer.specs.Laid.{Room}
@@ -14,15 +14,15 @@ use Rattle.answertext.proofs.Printed.{closed_pieces, closed-pieces, entry-few}
 use Rattle.answertext.proofs.put_open.Goals as goal
 
 -- no piece is laid
-none : (b : Text) (at : ℕ) (a : Answer) (r : Refusal) (t : ℕ) → a ≡ Refused r → t ≡ get_or (values_of r) 0 0 → Room b at (open_text a)
+none : (b : Text) (at : ℕ) (a : Answer) (r : Refusal) (t : ℕ) → a ≡ Err r → t ≡ get_or (values_of r) 0 0 → Room b at (open_text a)
     → Due b at (open_text a) b at (closed_pieces t)
 none b at a r t e v h = due b at (closed_pieces t) (closed-pieces a r t e v) h
 
 pub put_numbered-b-requires : goal.put_numbered-b-requires
 put_numbered-b-requires c =
     let x = c.args in
-    let r = c.in-Refused.r in
-    let e = c.in-Refused.is in
+    let r = c.in-Err.r in
+    let e = c.in-Err.is in
     let v = c.first_value-t in
     (entry-few x.a r v.result e v.ensures c.requires.0, due-room (none x.buf.now x.at x.a r v.result e v.ensures c.requires.1))
 
@@ -30,13 +30,13 @@ pub copy-requires : goal.copy-requires
 copy-requires c =
     let x = c.args in
     let v = c.first_value-t in
-    due-room (due-next (none x.buf.now x.at x.a c.in-Refused.r v.result c.in-Refused.is v.ensures c.requires.1) c.put_numbered-b.ensures)
+    due-room (due-next (none x.buf.now x.at x.a c.in-Err.r v.result c.in-Err.is v.ensures c.requires.1) c.put_numbered-b.ensures)
 
-pub returns-in-Refused : goal.returns-in-Refused
-returns-in-Refused c =
+pub returns-in-Err : goal.returns-in-Err
+returns-in-Err c =
     let x = c.args in
     let v = c.first_value-t in
-    due-done (due-next (due-next (none x.buf.now x.at x.a c.in-Refused.r v.result c.in-Refused.is v.ensures c.requires.1) c.put_numbered-b.ensures) c.copy.ensures)
+    due-done (due-next (due-next (none x.buf.now x.at x.a c.in-Err.r v.result c.in-Err.is v.ensures c.requires.1) c.put_numbered-b.ensures) c.copy.ensures)
 
 pub copy-requires-2 : goal.copy-requires-2
 copy-requires-2 c = rw c.in_default.is at c.requires.1

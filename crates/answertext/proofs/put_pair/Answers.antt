@@ -4,7 +4,6 @@ use Prim.Native.Nat.{ℕ, ◌-◌, ◌≤◌}
 use native.Mathlib.Omega.{arith}
 use lib.ListN.{get_or}
 use Rattle.network.specs.declared.Session.{Session}
-use Rattle.network.specs.declared.Exchanged.{Exchanged}
 use Rattle.network.specs.Calls.{exchange_of}
 use Rattle.network.specs.Flat.{loaded_net}
 use Rattle.buffer.specs.Laid.{Room}

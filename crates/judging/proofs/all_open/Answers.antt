@@ -5,21 +5,9 @@ use Rattle.judging.proofs.Judging.{open-stops, open_next, open-end}
 use Rattle.judging.proofs.all_open.Goals as goal
 
 pub loop-i-init : goal.loop-i-init
-loop-i-init c = (omega arith, refl)
-
-pub returns-in-Refused : goal.returns-in-Refused
-returns-in-Refused c =
-    let x = c.args in
-    open-stops x.s x.gates.now x.tables.now c.loop-i.i (omega arith) (omega arith) c.loop-i.invariant.1 c.exchange-a.result c.exchange-a.ensures c.in-Refused.is
-
-pub loop-i-preserved : goal.loop-i-preserved
-loop-i-preserved c =
-    let x = c.args in (
-      omega arith,
-      open_next x.s x.gates.now x.tables.now c.loop-i.i (omega arith) (omega arith) c.loop-i.invariant.1 c.exchange-a.result c.exchange-a.ensures c.in_default.is,
-    )
+loop-i-init c = refl
 
 pub returns : goal.returns
 returns c =
     let x = c.args in
-    open-end x.s x.gates.now x.tables.now c.loop-i.i (omega arith) c.loop-i.invariant.1
+    open-end x.s x.gates.now x.tables.now c.loop-i.i (omega arith) c.loop-i.invariant
