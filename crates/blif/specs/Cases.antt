@@ -1,13 +1,12 @@
 -- Cases, each computed and held against what is stated: texts read, sessions written. Assumes nothing.
-use Rattle.std.specs.Prelude.{cond, List, [], ◌∷◌, ◌++◌, ℕ, zero, suc, length, take, drop, replicate}
+use Rattle.std.specs.Prelude.{List, [], ◌∷◌, ◌++◌, ℕ, zero, suc, length, take, drop, replicate, Result, Ok, Err}
 use Prim.Native.String.{String}
-use Rattle.network.specs.declared.Loaded.{Loaded}
+use Rattle.network.specs.declared.Refusal.{Refusal}
 use Rattle.network.specs.declared.Session.{Session}
 use Rattle.network.specs.Bounds.{most_entries, excluded_words}
 use Rattle.network.specs.Net.{Net, gate}
 use Rattle.network.specs.Flat.{current_net}
-use Rattle.network.specs.Refusals.{said}
-use Rattle.network.specs.Tests.{is_done}
+use Rattle.network.specs.Refusals.{number_of, values_of}
 use Rattle.network.specs.Load.{started, with_gate}
 use Rattle.network.specs.Examples.{twin_session, or_six_session}
 use Rattle.network.specs.Calls.{stored}
@@ -20,10 +19,9 @@ use Rattle.blif.specs.Write.{outgoing, rows_in, lines_of, blif_text, most_block_
 
 -- ## A text read: the number of its refusal; else n, the outputs' signals and the tables
 
-abbrev outcome : Loaded → List ℕ
-outcome l =
-    let s = l.session in
-    cond (is_done l.answer) (s.n ∷ take s.p s.outputs ++ take s.m s.current) (said l.answer)
+abbrev outcome : Result Session Refusal → List ℕ
+outcome (Ok s) = s.n ∷ take s.p s.outputs ++ take s.m s.current
+outcome (Err r) = number_of r ∷ values_of r
 
 abbrev reads : Text → List ℕ
 reads bytes = outcome (read_blif bytes)

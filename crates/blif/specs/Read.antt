@@ -1,15 +1,15 @@
 -- What reading a BLIF text answers: request Four of 02, line by line. Assumes nothing.
-use Rattle.std.specs.Prelude.{Bool, true, false, not, cond, ◌&&◌, ◌||◌, List, [], ◌∷◌, ◌++◌, map, ℕ, suc, ◌+◌, ◌-◌, leb, ltb, eqb, length, get_or, take, drop, set}
+use Rattle.std.specs.Prelude.{Bool, true, false, not, cond, ◌&&◌, ◌||◌, List, [], ◌∷◌, ◌++◌, map, ℕ, suc, ◌+◌, ◌-◌, leb, ltb, eqb, length, get_or, take, drop, set, Result, Ok, Err}
 use Rattle.std.proofs.lemmas.List.Edits.{sets}
 use Rattle.bits.specs.Bounds.{most_inputs}
+use Rattle.network.specs.Answer.{Answer, onward}
+use Rattle.network.specs.declared.Refusal.{Refusal}
 use Rattle.network.specs.declared.Session.{Session}
-use Rattle.network.specs.declared.Loaded.{Loaded}
 use Rattle.network.specs.declared.Refusal.TheVariants.{OutsideSubset, BadName}
-use Rattle.network.specs.declared.Answer.{Answer}
 use Rattle.network.specs.Bounds.{most_gates, most_outputs, most_fanins}
 use Rattle.network.specs.Tests.{refuse_if, first, count_test}
 use Rattle.network.specs.State.{arity_of}
-use Rattle.network.specs.Load.{started, load_done, load_refused, onward, with_gate, opened}
+use Rattle.network.specs.Load.{started, with_gate, opening}
 use Rattle.text.specs.Ascii.{ascii}
 use Rattle.text.specs.Words.{Text, is_printing, all}
 use Rattle.blif.specs.Text.{statements}
@@ -186,9 +186,9 @@ finished d = with_outputs d.session (map (place_in d.signals) d.outputs)
 -- ## The lines in their order. A text that stops before `.end` is refused there with 17
 
 -- after `.end`
-abbrev pub read_rest : Session → List (List Text) → Loaded
-read_rest t [] = load_done t
-read_rest t (line ∷ rest) = load_refused OutsideSubset
+abbrev pub read_rest : Session → List (List Text) → Result Session Refusal
+read_rest t [] = Ok t
+read_rest t (line ∷ rest) = Err OutsideSubset
 
 -- a line of a block: `.names`, else a row
 abbrev pub line_test : Draft → List Text → Answer
@@ -198,8 +198,8 @@ abbrev pub with_line : Draft → List Text → Draft
 with_line d line = cond (opens (ascii ".names") line) (with_block d line) (with_row d line)
 
 -- blocks, then `.end`
-unfoldable pub read_blocks : Draft → List (List Text) → Loaded
-read_blocks d [] = load_refused OutsideSubset
+unfoldable pub read_blocks : Draft → List (List Text) → Result Session Refusal
+read_blocks d [] = Err OutsideSubset
 read_blocks d (line ∷ rest) =
     cond (opens (ascii ".end") line) (onward (first (end_tests d line)) (read_rest (finished d) rest))
     (onward (line_test d line) (read_blocks (with_line d line) rest))
@@ -215,26 +215,26 @@ names_tests word most line =
 abbrev pub begun : (inputs outputs : List Text) → Draft
 begun ins outs = record { signals = ins; outputs = outs; session = started (length ins) 0 (length outs); rows = []; digit = 0 }
 
-unfoldable pub read_outputs : List Text → List (List Text) → Loaded
-read_outputs ins [] = load_refused OutsideSubset
+unfoldable pub read_outputs : List Text → List (List Text) → Result Session Refusal
+read_outputs ins [] = Err OutsideSubset
 read_outputs ins (line ∷ rest) = onward (first (names_tests (ascii ".outputs") most_outputs line)) (read_blocks (begun ins (names line)) rest)
 
-unfoldable pub read_inputs : List (List Text) → Loaded
-read_inputs [] = load_refused OutsideSubset
+unfoldable pub read_inputs : List (List Text) → Result Session Refusal
+read_inputs [] = Err OutsideSubset
 read_inputs (line ∷ rest) = onward (first (names_tests (ascii ".inputs") most_inputs line)) (read_outputs (names line) rest)
 
 -- `.model` has one name
 abbrev pub model_test : List Text → Answer
 model_test line = refuse_if (foreign line || (not (opens (ascii ".model") line) || not (eqb (length line) 2))) OutsideSubset
 
-unfoldable pub read_model : List (List Text) → Loaded
-read_model [] = load_refused OutsideSubset
+unfoldable pub read_model : List (List Text) → Result Session Refusal
+read_model [] = Err OutsideSubset
 read_model (line ∷ rest) = onward (model_test line) (read_inputs rest)
 
 -- the network of the text, with no open tables yet
-unfoldable pub read_blif : Text → Loaded
+unfoldable pub read_blif : Text → Result Session Refusal
 read_blif bytes = read_model (statements bytes)
 
 -- as load: the open tables of its gates with it
-unfoldable pub read_blif_of : Text → Loaded
-read_blif_of bytes = onward (read_blif bytes).answer (load_done (opened (read_blif bytes).session))
+unfoldable pub read_blif_of : Text → Result Session Refusal
+read_blif_of bytes = opening (read_blif bytes)

@@ -3,8 +3,8 @@ use Rattle.std.specs.Prelude.{Bool, cond, ◌||◌, List, [], ◌∷◌, ◌++�
 use Rattle.bits.specs.Bounds.{most_inputs}
 use Rattle.bits.specs.Range.{num, places, up_from}
 use Rattle.bits.specs.Bit.{bit}
+use Rattle.network.specs.Answer.{Answer}
 use Rattle.network.specs.declared.Session.{Session}
-use Rattle.network.specs.declared.Answer.{Answer}
 use Rattle.network.specs.Bounds.{most_gates, most_outputs, most_fanins, most_entries, excluded_words}
 use Rattle.network.specs.Net.{Gate, Net, arity, gate}
 use Rattle.network.specs.Flat.{current_net}

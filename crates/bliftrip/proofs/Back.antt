@@ -10,10 +10,10 @@ use lib.Seq.{sets, ext_get_or}
 use Rattle.bits.specs.Range.{num, places}
 use Rattle.bits.specs.Bit.{bit}
 use Rattle.bits.proofs.Ranges.{and_l, and_r, and_i, length-places, places-at, places-ext}
+use Rattle.std.specs.Prelude.{Ok}
 use Rattle.network.specs.Bounds.{most_signals, excluded_words}
 use Rattle.network.specs.Net.{Gate, Net, arity, no_gate, gate}
 use Rattle.network.specs.Flat.{gate_at, gates_of, net_of, net_with, loaded_net, current_net}
-use Rattle.network.specs.Load.{load_done}
 use Rattle.network.proofs.Slots.{sets-at, places-get}
 use Rattle.text.specs.Ascii.{ascii}
 use Rattle.text.specs.Words.{Text, all}
@@ -82,7 +82,7 @@ module _ (N : Net) (w : Writable N) where
       rw (ins-clean N w, outs-clean N w) (all_append clean_line (blocks_lines N (length N.gates)) ((ascii ".end" ∷ []) ∷ []) (blocks-clean (length N.gates) (omega arith)) refl)
 
   -- what is written is accepted, and read as this session
-  pub text-back : read_blif (text (lines_of N)) ≡ load_done (read_session N w)
+  pub text-back : read_blif (text (lines_of N)) ≡ Ok (read_session N w)
   unfolding read_blif
   text-back = ap read_model (statements-text (lines_of N) (lines-plain (lines_of N) lines-clean)) ∙ lines-back N w
 

@@ -11,12 +11,12 @@ use borrow.Author.Tests.{eq-eqb, ne_eqb, le-leb}
 use Rattle.bits.specs.Range.{num, places}
 use Rattle.bits.specs.Bit.{bit}
 use Rattle.bits.proofs.Ranges.{and_l, lt-cases, length-places, map_snoc}
+use Rattle.network.specs.Answer.{Done, onward}
 use Rattle.network.specs.declared.Session.{Session}
-use Rattle.network.specs.declared.Answer.TheVariants.{Done}
 use Rattle.network.specs.Bounds.{most_gates, most_fanins, most_signals}
 use Rattle.network.specs.Net.{Gate, arity}
 use Rattle.network.specs.Tests.{first}
-use Rattle.network.specs.Load.{onward, with_gate}
+use Rattle.network.specs.Load.{with_gate}
 use Rattle.network.specs.Valid.{Sized}
 use Rattle.network.proofs.TestLaws.{clear-i, count-i}
 use Rattle.network.proofs.Earlier.{Below}

@@ -8,13 +8,13 @@ use lib.ListN.{length, get_or, replicate, length-map}
 use Rattle.bits.specs.Bounds.{most_inputs}
 use Rattle.bits.specs.Range.{up_from}
 use Rattle.bits.proofs.Ranges.{lt-cases, map_snoc, up-places}
+use Rattle.std.specs.Prelude.{Ok}
+use Rattle.network.specs.Answer.{Answer, Done, onward}
 use Rattle.network.specs.declared.Session.{Session}
-use Rattle.network.specs.declared.Answer.{Answer}
-use Rattle.network.specs.declared.Answer.TheVariants.{Done}
 use Rattle.network.specs.Bounds.{most_gates, most_outputs, most_signals, excluded_words}
 use Rattle.network.specs.Net.{Net, arity, gate}
 use Rattle.network.specs.Tests.{first}
-use Rattle.network.specs.Load.{load_done, onward, with_gate}
+use Rattle.network.specs.Load.{with_gate}
 use Rattle.network.specs.Valid.{Sized}
 use Rattle.network.proofs.TestLaws.{clear-i, count-i}
 use Rattle.network.proofs.Slots.{sized-started, sized-gate, GateIs, gate-new, gate-kept}
@@ -132,7 +132,7 @@ module _ (N : Net) (w : Writable N) where
   pub whole_is : Built N whole (length N.gates)
   whole_is = built-is (length N.gates) (omega arith)
 
-  end_back : read_blocks whole ((ascii ".end" ∷ []) ∷ []) ≡ load_done (finished whole)
+  end_back : read_blocks whole ((ascii ".end" ∷ []) ∷ []) ≡ Ok (finished whole)
   unfolding read_blocks
   end_back =
       let b = whole_is in
@@ -145,7 +145,7 @@ module _ (N : Net) (w : Writable N) where
           (rw e (count-i most_gates (length N.gates) w.gates-some w.gates-few), tt),
         ),
       ) in
-      ap (λ (a : Answer). onward a (load_done (finished whole))) k
+      ap (λ (a : Answer). onward a (Ok (finished whole))) k
 
   -- the session that is read
   abbrev pub read_session : Session
@@ -194,8 +194,8 @@ module _ (N : Net) (w : Writable N) where
         ),
       )
 
-  pub lines-back : read_model (lines_of N) ≡ load_done read_session
+  pub lines-back : read_model (lines_of N) ≡ Ok read_session
   unfolding read_model read_inputs read_outputs lines_of
   lines-back =
       rw (inputs-tests, outputs-tests)
-      (blocks-back (length N.gates) ((ascii ".end" ∷ []) ∷ []) (omega arith) ∙ end_back ∙ ap load_done finished-is)
+      (blocks-back (length N.gates) ((ascii ".end" ∷ []) ∷ []) (omega arith) ∙ end_back ∙ ap Ok finished-is)

@@ -12,9 +12,9 @@ use lib.Seq.{get_or-set_same, get_or-set_other}
 use borrow.Author.Tests.{not-false, leb-true}
 use Rattle.bits.specs.Bounds.{most_inputs}
 use Rattle.bits.proofs.Ranges.{and_l, lt-cases, or-false}
+use Rattle.network.specs.Answer.{Done}
 use Rattle.network.specs.declared.Session.{Session}
 use Rattle.network.specs.declared.Refusal.TheVariants.{OutsideSubset, BadName}
-use Rattle.network.specs.declared.Answer.TheVariants.{Done}
 use Rattle.network.specs.Bounds.{most_gates, most_outputs, most_fanins, excluded_words}
 use Rattle.network.specs.Tests.{refuse_if, first, count_test, fanins_test, width_test}
 use Rattle.network.specs.State.{arity_of, fanins_of}

@@ -5,15 +5,14 @@ use Prim.Native.Nat.{ℕ, ◌+◌, ◌-◌}
 use lib.Dec.{leb, eqb}
 use lib.ListN.{length}
 use Rattle.bits.specs.Bounds.{most_inputs}
+use Rattle.std.specs.Prelude.{Result, Ok, Err}
+use Rattle.network.specs.Answer.{Answer, Done, answer_of, onward}
+use Rattle.network.specs.declared.Refusal.{Refusal}
 use Rattle.network.specs.declared.Session.{Session}
-use Rattle.network.specs.declared.Loaded.{Loaded}
 use Rattle.network.specs.declared.Refusal.TheVariants.{OutOfBounds, OutsideSubset, BadName}
-use Rattle.network.specs.declared.Answer.{Answer}
-use Rattle.network.specs.declared.Answer.TheVariants.{Done, Refused}
 use Rattle.network.specs.Bounds.{most_gates, most_outputs, most_fanins}
 use Rattle.network.specs.Flat.{current_net}
 use Rattle.network.specs.Tests.{refuse_if, first, count_test}
-use Rattle.network.specs.Load.{onward}
 use Rattle.network.proofs.ByTest.{if-by, first_by}
 use Rattle.text.specs.Ascii.{ascii}
 use Rattle.text.specs.Words.{Text, all}
@@ -23,18 +22,18 @@ use Rattle.blif.specs.Write.{outgoing, copies_test}
 
 -- ## What holds of Done and of three refusals holds of every reading's answer
 
-onward-by : (Q : Answer → Type 0) (a : Answer) (l : Loaded) → Q a → Q l.answer → Q (onward a l).answer
-onward-by Q Done l p q = q
-onward-by Q (Refused r) l p q = p
+onward-by : (Q : Answer → Type 0) (a : Answer) (l : Result Session Refusal) → Q a → Q (answer_of l) → Q (answer_of (onward a l))
+onward-by Q (Ok _) l p q = q
+onward-by Q (Err r) l p q = p
 
-either : (Q : Answer → Type 0) (b : Bool) (l m : Loaded) → Q l.answer → Q m.answer → Q (cond b l m).answer
+either : (Q : Answer → Type 0) (b : Bool) (l m : Result Session Refusal) → Q (answer_of l) → Q (answer_of m) → Q (answer_of (cond b l m))
 either Q true l m p q = p
 either Q false l m p q = q
 
-count_by : (Q : Answer → Type 0) → Q Done → Q (Refused OutOfBounds) → (most x : ℕ) → Q (count_test most x)
+count_by : (Q : Answer → Type 0) → Q Done → Q (Err OutOfBounds) → (most x : ℕ) → Q (count_test most x)
 count_by Q done p most x = if-by Q (not (leb 1 x && leb x most)) OutOfBounds p (λ e. done)
 
-module _ (Q : Answer → Type 0) (done : Q Done) (bounds : Q (Refused OutOfBounds)) (outside : Q (Refused OutsideSubset)) (misused : Q (Refused BadName)) where
+module _ (Q : Answer → Type 0) (done : Q Done) (bounds : Q (Err OutOfBounds)) (outside : Q (Err OutsideSubset)) (misused : Q (Err BadName)) where
   outside-by : (b : Bool) → Q (refuse_if b OutsideSubset)
   outside-by b = if-by Q b OutsideSubset outside (λ e. done)
 
@@ -46,7 +45,7 @@ module _ (Q : Answer → Type 0) (done : Q Done) (bounds : Q (Refused OutOfBound
       first_by Q done (end_tests d line)
       (outside-by (not (eqb (length line) 1)), (name_by (not (all (known d.signals) d.outputs)), (count_by Q done bounds most_gates d.session.m, tt)))
 
-  rest-by : (t : Session) (lines : List (List Text)) → Q (read_rest t lines).answer
+  rest-by : (t : Session) (lines : List (List Text)) → Q (answer_of (read_rest t lines))
   rest-by t [] = done
   rest-by t (line ∷ rest) = outside
 
@@ -64,7 +63,7 @@ module _ (Q : Answer → Type 0) (done : Q Done) (bounds : Q (Refused OutOfBound
           )
       go false = outside-by (not (is_row d line))
 
-  blocks-by : (lines : List (List Text)) (d : Draft) → Q (read_blocks d lines).answer
+  blocks-by : (lines : List (List Text)) (d : Draft) → Q (answer_of (read_blocks d lines))
   unfolding read_blocks
   blocks-by [] d = outside
   blocks-by (line ∷ rest) d =
@@ -77,33 +76,33 @@ module _ (Q : Answer → Type 0) (done : Q Done) (bounds : Q (Refused OutOfBound
       first_by Q done (names_tests word most line)
       (outside-by (foreign line || not (opens word line)), (name_by (repeats (names line)), (count_by Q done bounds most (length (names line)), tt)))
 
-  outputs-by : (ins : List Text) (lines : List (List Text)) → Q (read_outputs ins lines).answer
+  outputs-by : (ins : List Text) (lines : List (List Text)) → Q (answer_of (read_outputs ins lines))
   unfolding read_outputs
   outputs-by ins [] = outside
   outputs-by ins (line ∷ rest) =
       onward-by Q (first (names_tests (ascii ".outputs") most_outputs line)) (read_blocks (begun ins (names line)) rest)
       (names-by (ascii ".outputs") most_outputs line) (blocks-by rest (begun ins (names line)))
 
-  inputs-by : (lines : List (List Text)) → Q (read_inputs lines).answer
+  inputs-by : (lines : List (List Text)) → Q (answer_of (read_inputs lines))
   unfolding read_inputs
   inputs-by [] = outside
   inputs-by (line ∷ rest) =
       onward-by Q (first (names_tests (ascii ".inputs") most_inputs line)) (read_outputs (names line) rest)
       (names-by (ascii ".inputs") most_inputs line) (outputs-by (names line) rest)
 
-  model-by : (lines : List (List Text)) → Q (read_model lines).answer
+  model-by : (lines : List (List Text)) → Q (answer_of (read_model lines))
   unfolding read_model
   model-by [] = outside
   model-by (line ∷ rest) =
       onward-by Q (model_test line) (read_inputs rest)
       (outside-by (foreign line || (not (opens (ascii ".model") line) || not (eqb (length line) 2)))) (inputs-by rest)
 
-  pub read_by : (text : Text) → Q (read_blif text).answer
+  pub read_by : (text : Text) → Q (answer_of (read_blif text))
   unfolding read_blif
   read_by text = model-by (statements text)
 
 -- ## On the way out: 3, with the copies counted
 
-pub copies-by : (Q : Answer → Type 0) → Q Done → Q (Refused OutOfBounds) → (s : Session) → Q (copies_test s)
+pub copies-by : (Q : Answer → Type 0) → Q Done → Q (Err OutOfBounds) → (s : Session) → Q (copies_test s)
 unfolding copies_test
 copies-by Q done p s = count_by Q done p most_gates (length (outgoing (current_net s)).gates)

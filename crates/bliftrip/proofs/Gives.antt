@@ -8,21 +8,22 @@ use lib.ListN.{length, get_or, replicate, length-map}
 use lib.Seq.{sets, length-sets}
 use Rattle.bits.specs.Bounds.{most_inputs}
 use Rattle.bits.proofs.Ranges.{by_cases}
+use Rattle.std.specs.Prelude.{Result, Ok, Err}
+use Rattle.network.specs.Answer.{Done, answer_of}
+use Rattle.network.specs.declared.Refusal.{Refusal}
 use Rattle.network.specs.declared.Session.{Session}
-use Rattle.network.specs.declared.Loaded.{Loaded}
 use Rattle.network.specs.declared.Refusal.TheVariants.{OutsideSubset, BadName}
-use Rattle.network.specs.declared.Answer.TheVariants.{Done}
 use Rattle.network.specs.Bounds.{most_outputs, excluded_words}
 use Rattle.network.specs.Compatible.{open_tables}
 use Rattle.network.specs.Tests.{first, count_test}
 use Rattle.network.specs.State.{state_fault}
 use Rattle.network.specs.Valid.{Shaped, Sized}
-use Rattle.network.specs.Load.{load_done, load_refused, opened}
+use Rattle.network.specs.Load.{opened, opening}
 use Rattle.network.proofs.Fresh.{Fresh}
-use Rattle.network.proofs.TestLaws.{refused-done, kept, clear-e, count-e, output-i, went}
+use Rattle.network.proofs.TestLaws.{refused-done, kept, clear-e, count-e, output-i, went, given-same}
 use Rattle.network.proofs.Valid.{valid-i}
 use Rattle.network.proofs.Slots.{sized-started, sets-at}
-use Rattle.network.proofs.Reached.{no_bits, zero-wide, done-whole, opened-fault, opened-loaded, opened-length}
+use Rattle.network.proofs.Reached.{no_bits, zero-wide, opened-fault, opened-loaded, opened-length}
 use Rattle.text.specs.Ascii.{ascii}
 use Rattle.text.specs.Words.{Text, all}
 use Rattle.blif.specs.Text.{statements}
@@ -84,13 +85,13 @@ end-given d line s h =
       };
     }
 
-rest-given : (t u : Session) (rest : List (List Text)) → Given t → read_rest t rest ≡ load_done u → Given u
-rest-given t u [] g h = let e : t ≡ u = ap (λ (x : Loaded). x.session) h in rw (← e) g
-rest-given t u (line ∷ rest) g h = refused-done OutsideSubset (ap (λ (x : Loaded). x.answer) h)
+rest-given : (t u : Session) (rest : List (List Text)) → Given t → read_rest t rest ≡ Ok u → Given u
+rest-given t u [] g h = rw (← given-same h) g
+rest-given t u (line ∷ rest) g h = refused-done OutsideSubset (ap answer_of h)
 
-blocks-given : (lines : List (List Text)) (d : Draft) (u : Session) → Drafted d → read_blocks d lines ≡ load_done u → Given u
+blocks-given : (lines : List (List Text)) (d : Draft) (u : Session) → Drafted d → read_blocks d lines ≡ Ok u → Given u
 unfolding read_blocks
-blocks-given [] d u s h = refused-done OutsideSubset (ap (λ (x : Loaded). x.answer) h)
+blocks-given [] d u s h = refused-done OutsideSubset (ap answer_of h)
 blocks-given (line ∷ rest) d u s h =
     by_cases (opens (ascii ".end") line)
     (λ e.
@@ -114,16 +115,16 @@ begun-drafted ins os a b = record {
   tidy = tidy-started (length ins) 0 (length os);
 }
 
-model-given : (lines : List (List Text)) (u : Session) → read_model lines ≡ load_done u → Given u
+model-given : (lines : List (List Text)) (u : Session) → read_model lines ≡ Ok u → Given u
 unfolding read_model read_inputs read_outputs
-model-given [] u h = refused-done OutsideSubset (ap (λ (x : Loaded). x.answer) h)
+model-given [] u h = refused-done OutsideSubset (ap answer_of h)
 model-given (m ∷ []) u h =
-    let w = went (model_test m) (load_refused OutsideSubset) u h in
-    refused-done OutsideSubset (ap (λ (x : Loaded). x.answer) w.1)
+    let w = went (model_test m) (Err OutsideSubset) u h in
+    refused-done OutsideSubset (ap answer_of w.1)
 model-given (m ∷ ins ∷ []) u h =
     let w = went (model_test m) _ u h in
-    let v = went (first (names_tests (ascii ".inputs") most_inputs ins)) (load_refused OutsideSubset) u w.1 in
-    refused-done OutsideSubset (ap (λ (x : Loaded). x.answer) v.1)
+    let v = went (first (names_tests (ascii ".inputs") most_inputs ins)) (Err OutsideSubset) u w.1 in
+    refused-done OutsideSubset (ap answer_of v.1)
 model-given (m ∷ ins ∷ os ∷ rest) u h =
     let w = went (model_test m) (read_inputs (ins ∷ os ∷ rest)) u h in
     let v = went (first (names_tests (ascii ".inputs") most_inputs ins)) (read_outputs (names ins) (os ∷ rest)) u w.1 in
@@ -135,21 +136,22 @@ model-given (m ∷ ins ∷ os ∷ rest) u h =
 -- ## With the open tables
 
 -- a text that is accepted was read and opened
-pub text-read : (text : Text) (s : Session) → read_blif_of text ≡ load_done s → (t : Session) × (read_blif text ≡ load_done t) × (opened t ≡ s)
+pub text-read : (text : Text) (s : Session) → read_blif_of text ≡ Ok s → (t : Session) × (read_blif text ≡ Ok t) × (opened t ≡ s)
 unfolding read_blif_of
-text-read text s h =
-    let r = read_blif text in
-    let w = went r.answer (load_done (opened r.session)) s h in
-    (r.session, done-whole r w.0, ap (λ (x : Loaded). x.session) w.1)
+text-read text s h = go (read_blif text) h
+  where
+    go : (l : Result Session Refusal) → opening l ≡ Ok s → (t : Session) × (l ≡ Ok t) × (opened t ≡ s)
+    go (Ok t) h = (t, refl, given-same h)
+    go (Err r) h = refused-done r (ap answer_of h)
 
-pub given : (text : Text) (t : Session) → read_blif text ≡ load_done t → Given t
+pub given : (text : Text) (t : Session) → read_blif text ≡ Ok t → Given t
 unfolding read_blif
 given text t h = model-given (statements text) t h
 
 pub read-valid : BlifValid
-read-valid text e = (given text (read_blif text).session (done-whole (read_blif text) e)).valid
+read-valid text s h = (given text s h).valid
 
-pub text-fresh : (text : Text) (s : Session) → read_blif_of text ≡ load_done s → Fresh s
+pub text-fresh : (text : Text) (s : Session) → read_blif_of text ≡ Ok s → Fresh s
 text-fresh text s h =
     let l = text-read text s h in
     let t = l.0 in
@@ -163,13 +165,13 @@ text-fresh text s h =
       tables = g.sized.loads;
     })
 
-pub text-free : (text : Text) (s : Session) → read_blif_of text ≡ load_done s → s.excluded ≡ replicate excluded_words 0
+pub text-free : (text : Text) (s : Session) → read_blif_of text ≡ Ok s → s.excluded ≡ replicate excluded_words 0
 text-free text s h =
     let l = text-read text s h in
     let g = given text l.0 l.1 in
     rw (← l.2) g.free
 
-pub text-shaped : (text : Text) (s : Session) → read_blif_of text ≡ load_done s → Shaped s
+pub text-shaped : (text : Text) (s : Session) → read_blif_of text ≡ Ok s → Shaped s
 text-shaped text s h =
     let l = text-read text s h in
     let t = l.0 in

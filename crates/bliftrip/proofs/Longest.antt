@@ -7,8 +7,8 @@ use lib.ListN.{length, replicate}
 use Rattle.bits.specs.Bounds.{most_inputs}
 use Rattle.bits.specs.Range.{up_from}
 use Rattle.bits.specs.Bit.{bit}
+use Rattle.network.specs.Answer.{Done}
 use Rattle.network.specs.declared.Session.{Session}
-use Rattle.network.specs.declared.Answer.TheVariants.{Done}
 use Rattle.network.specs.Bounds.{most_gates, most_outputs, most_fanins, most_signals}
 use Rattle.network.specs.Flat.{gate_at, gates_of, net_of, current_net}
 use Rattle.network.specs.Examples.{held}

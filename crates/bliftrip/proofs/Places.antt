@@ -9,8 +9,8 @@ use lib.ListN.{length, get_or, take, length-map}
 use lib.Seq.{length-take-le, get_or-take}
 use borrow.Author.Tests.{ltb-true, lt-ltb, eqb-true}
 use Rattle.bits.proofs.Ranges.{and_l, and_r, or-false}
+use Rattle.network.specs.Answer.{Done}
 use Rattle.network.specs.declared.Refusal.TheVariants.{FaninNotEarlier, FaninRepeated}
-use Rattle.network.specs.declared.Answer.TheVariants.{Done}
 use Rattle.network.specs.Tests.{refuse_if, member, fanin_test, fanins_test}
 use Rattle.network.proofs.TestLaws.{clear-i, each-i}
 use Rattle.text.specs.Words.{Text, all}

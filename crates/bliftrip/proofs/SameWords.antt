@@ -11,8 +11,8 @@ use lib.Seq.{length-take-le, ext_get_or}
 use Rattle.bits.specs.Bounds.{gate_places}
 use Rattle.bits.specs.Range.{places}
 use Rattle.bits.proofs.Ranges.{by_cases, length-places, places-at}
+use Rattle.std.specs.Prelude.{Ok}
 use Rattle.network.specs.declared.Session.{Session}
-use Rattle.network.specs.declared.Loaded.{Loaded}
 use Rattle.network.specs.declared.Refusal.TheVariants.{TrailingBytes}
 use Rattle.network.specs.Bounds.{most_gates, most_fanins, excluded_words}
 use Rattle.network.specs.Net.{Gate, Net, arity, no_gate}
@@ -20,11 +20,11 @@ use Rattle.network.specs.Compatible.{open_tables}
 use Rattle.network.specs.Flat.{gate_at, gates_of, net_of, loaded_net, current_net}
 use Rattle.network.specs.Tests.{refuse_if}
 use Rattle.network.specs.Load as load
-use Rattle.network.specs.Load.{started, load_done, with_output, output_record, read_outputs, fanins_in, table_in, after_fanins, with_gate, form_of, gate_record, read_gates, set_bytes, excluded_in, with_excluded, is_excluded, excluded_record, read_body, header_tests, header_record, read_of, opened, load_of}
+use Rattle.network.specs.Load.{started, with_output, output_record, read_outputs, fanins_in, table_in, after_fanins, with_gate, form_of, gate_record, read_gates, set_bytes, excluded_in, with_excluded, is_excluded, excluded_record, read_body, header_tests, header_record, read_of, opened, load_of}
 use Rattle.network.specs.Write.{bytes_of}
 use Rattle.network.specs.Valid.{Sized}
 use Rattle.network.proofs.Fresh.{Fresh}
-use Rattle.network.proofs.TestLaws.{clear-e, short-e, count-e, went}
+use Rattle.network.proofs.TestLaws.{clear-e, short-e, count-e, went, given-same}
 use Rattle.network.proofs.FlatGates.{arity-at, table_at, fanin-at, length-gates}
 use Rattle.network.proofs.Earlier.{gates-at}
 use Rattle.network.proofs.Slots.{sized-started, sized-gate}
@@ -44,11 +44,11 @@ use Rattle.bliftrip.proofs.Gives.{text-read, given, text-fresh, text-shaped, tex
 -- ## A load leaves the places that it does not fill
 
 module _ (u : Session) where
-  outputs-tidy : (c j : ℕ) (t : Session) (rest : List ℕ) → j + c ≡ t.p → Tidy t t.m j → read_outputs c j t rest ≡ load_done u → Tidy u u.m u.p
+  outputs-tidy : (c j : ℕ) (t : Session) (rest : List ℕ) → j + c ≡ t.p → Tidy t t.m j → read_outputs c j t rest ≡ Ok u → Tidy u u.m u.p
   unfolding read_outputs
   outputs-tidy zero j t rest e tidy h =
-      let w = went (refuse_if (leb 1 (length rest)) TrailingBytes) (load_done t) u h in
-      let same : t ≡ u = ap (λ (x : Loaded). x.session) w.1 in
+      let w = went (refuse_if (leb 1 (length rest)) TrailingBytes) (Ok t) u h in
+      let same : t ≡ u = given-same w.1 in
       let q : j ≡ t.p = omega arith in
       rw (← same) (rw q at tidy)
   outputs-tidy (suc c) j t rest e tidy h =
@@ -57,7 +57,7 @@ module _ (u : Session) where
       outputs-tidy c (j + 1) (with_output t j x) (drop 3 rest) (omega arith) (tidy-output t t.m j x tidy) w.1
 
   gates-tidy : (c g : ℕ) (t : Session) (rest : List ℕ) → g + c ≡ t.m → t.m ≤ most_gates → Sized t → Tidy t g 0
-      → read_gates c g t rest ≡ load_done u → Tidy u u.m u.p
+      → read_gates c g t rest ≡ Ok u → Tidy u u.m u.p
   unfolding read_gates gate_record
   gates-tidy zero g t rest e most sized tidy h = let q : g ≡ t.m = omega arith in outputs-tidy t.p 0 t rest (omega arith) (rw q at tidy) h
   gates-tidy (suc c) g t rest e most sized tidy h =
@@ -74,13 +74,13 @@ module _ (u : Session) where
       (tidy-gate t g k fs (table_in rest) sized (omega arith) len (omega arith) tidy) w.1
 
   words-tidy : (n m p : ℕ) (ws rest : List ℕ) → m ≤ most_gates → length ws ≡ excluded_words
-      → read_gates m 0 (with_excluded (started n m p) ws) rest ≡ load_done u → Tidy u u.m u.p
+      → read_gates m 0 (with_excluded (started n m p) ws) rest ≡ Ok u → Tidy u u.m u.p
   words-tidy n m p ws rest most len h =
       let z = tidy-started n m p in
       gates-tidy m 0 (with_excluded (started n m p) ws) rest (omega arith) most (sized-started n m p ws len)
       (record { arities = z.arities; slots = z.slots; tables = z.tables; outs = z.outs }) h
 
-read-tidy : (bytes : List ℕ) (u : Session) → read_of bytes ≡ load_done u → Tidy u u.m u.p
+read-tidy : (bytes : List ℕ) (u : Session) → read_of bytes ≡ Ok u → Tidy u u.m u.p
 unfolding read_of header_record read_body
 read-tidy bytes u h =
     let n = get_or bytes 2 0 in
@@ -200,10 +200,10 @@ module _ (s t : Session) (fs : Fresh s) (ft : Fresh t) (ns : Neat s) (nt : Neat 
 tidy-opened : (t : Session) → Tidy t t.m t.p → Tidy (opened t) t.m t.p
 tidy-opened t z = record { arities = z.arities; slots = z.slots; tables = z.tables; outs = z.outs }
 
-load-neat : (bytes : List ℕ) (s : Session) → load_of bytes ≡ load_done s → Neat s
+load-neat : (bytes : List ℕ) (s : Session) → load_of bytes ≡ Ok s → Neat s
 load-neat bytes s h = let l = load_read bytes s h in (loaded-sized bytes s h, rw (← l.2) (tidy-opened l.0 (read-tidy bytes l.0 l.1)))
 
-text-neat : (text : Text) (s : Session) → read_blif_of text ≡ load_done s → Neat s
+text-neat : (text : Text) (s : Session) → read_blif_of text ≡ Ok s → Neat s
 text-neat text s h = let l = text-read text s h in ((text-shaped text s h).sized, rw (← l.2) (tidy-opened l.0 (given text l.0 l.1).tidy))
 
 current-loaded : (s : Session) → s.current ≡ s.loaded → current_net s ≡ loaded_net s
@@ -217,7 +217,7 @@ blif-words text s h =
     let t = r.session in
     let e : loaded_net s ≡ loaded_net t = sym (r.loaded ∙ current-loaded s fresh.same) in
     let q = same-session s t fresh (loaded-fresh (bytes_of s) t r.reads) (text-neat text s h) (load-neat (bytes_of s) t r.reads) e in
-    r.reads ∙ ap load_done (sym q)
+    r.reads ∙ ap Ok (sym q)
 
 pub blif-file : BlifFile
 blif-file text s h = written-bytes s (text-fresh text s h).valid

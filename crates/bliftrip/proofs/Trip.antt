@@ -11,15 +11,16 @@ use lib.ListN.{length, get_or, take, length-append, get_or-append}
 use lib.Seq.{get_or_at, get_or-take, get_or-append-add, length-take-le}
 use Rattle.bits.specs.Bounds.{most_inputs, gate_places}
 use Rattle.bits.proofs.Ranges.{lt-cases, length-places, places-at}
+use Rattle.std.specs.Prelude.{Ok}
+use Rattle.network.specs.Answer.{Done}
 use Rattle.network.specs.declared.Session.{Session}
 use Rattle.network.specs.declared.Refusal.TheVariants.{FaninNotEarlier, FaninRepeated}
-use Rattle.network.specs.declared.Answer.TheVariants.{Done}
 use Rattle.network.specs.Bounds.{most_gates, most_outputs, most_fanins}
 use Rattle.network.specs.Net.{Gate, Net, no_gate}
 use Rattle.network.specs.Flat.{gate_at, gates_of, net_of, loaded_net, current_net}
 use Rattle.network.specs.Tests.{refuse_if, member, fanin_test, fanins_test}
 use Rattle.network.specs.State.{arity_of, fanins_of, state_test}
-use Rattle.network.specs.Load.{load_done, opened}
+use Rattle.network.specs.Load.{opened}
 use Rattle.network.proofs.TestLaws.{passed, clear-e, each-e, count-e, width-e, output-e, fanins-e}
 use Rattle.network.proofs.Valid.{GateValid, Valid, valid-e, state-e}
 use Rattle.network.proofs.Reached.{opened-loaded, opened-current}
@@ -165,11 +166,11 @@ module _ (s : Session) (valid : state_test s ≡ Done) (room : copies_test s ≡
   abbrev got : Session
   got = read_session (outgoing (current_net s)) sent
 
-  reads : read_blif (blif_text s) ≡ load_done got
+  reads : read_blif (blif_text s) ≡ Ok got
   unfolding blif_text
   reads = text-back (outgoing (current_net s)) sent
 
-  reads-open : read_blif_of (blif_text s) ≡ load_done (opened got)
+  reads-open : read_blif_of (blif_text s) ≡ Ok (opened got)
   unfolding read_blif_of
   reads-open = rw reads
 

@@ -1,18 +1,17 @@
 -- BLIF out and back, what a text gives, and what a cover means. Assumes nothing.
-use Rattle.std.specs.Prelude.{◌≡◌, ◌⊎◌, ◌↔◌, not, List, [], ℕ, ◌+◌, ◌^◌, ◌≤◌, ◌<◌, eqb, length, get_or, take, replicate}
+use Rattle.std.specs.Prelude.{◌≡◌, ◌⊎◌, ◌↔◌, not, List, [], ℕ, ◌+◌, ◌^◌, ◌≤◌, ◌<◌, eqb, length, get_or, take, replicate, Ok}
 use Rattle.bits.specs.Range.{num}
 use Rattle.bits.specs.Bit.{bit}
 use Rattle.bits.specs.Lists.{Bytes, overwritten}
+use Rattle.network.specs.Answer.{Done}
 use Rattle.network.specs.declared.Session.{Session}
-use Rattle.network.specs.declared.Answer.TheVariants.{Done}
-use Rattle.network.specs.declared.WriteAnswer.TheVariants as write
 use Rattle.network.specs.Bounds.{excluded_words}
 use Rattle.network.specs.Net.{Net, Replacement, output}
 use Rattle.network.specs.Compatible.{open_tables}
 use Rattle.network.specs.Flat.{loaded_net, current_net}
 use Rattle.network.specs.State.{state_fault, state_test}
 use Rattle.network.specs.Valid.{Shaped}
-use Rattle.network.specs.Load.{load_done, load_of}
+use Rattle.network.specs.Load.{load_of}
 use Rattle.network.specs.Write.{bytes_of}
 use Rattle.network.specs.Sessions.{after, Demand3, LoneHarmless, Inside, Together}
 use Rattle.text.specs.Words.{Text}
@@ -33,7 +32,7 @@ pub record Survives (N M : Net) : Type 0 where
 pub record Returns (s : Session) : Type 0 where
   pub session : Session
   -- what was written is accepted
-  pub reads : read_blif_of (blif_text s) ≡ load_done session
+  pub reads : read_blif_of (blif_text s) ≡ Ok session
   pub loaded : loaded_net session ≡ outgoing (current_net s)
   pub current : current_net session ≡ outgoing (current_net s)
   -- once more, and it is the same text
@@ -50,7 +49,7 @@ BlifLength = (s : Session) → state_test s ≡ Done → copies_test s ≡ Done 
 -- it is written into every buffer that is long enough
 abbrev pub BlifRoom : Type 0
 BlifRoom = (s : Session) (buffer : List ℕ) → state_test s ≡ Done → copies_test s ≡ Done → length (blif_text s) ≤ length buffer
-    → write_blif_of s buffer ≡ record { answer = write.Written (length (blif_text s)); buffer = overwritten (blif_text s) buffer }
+    → write_blif_of s buffer ≡ record { answer = Ok (length (blif_text s)); buffer = overwritten (blif_text s) buffer }
 
 -- ## What a text gives
 
@@ -72,19 +71,19 @@ pub record AsLoaded (s : Session) : Type 0 where
 
 -- of every list of numbers: it need not be known that they are bytes
 abbrev pub BlifFresh : Type 0
-BlifFresh = (text : List ℕ) (s : Session) → read_blif_of text ≡ load_done s → AsLoaded s
+BlifFresh = (text : List ℕ) (s : Session) → read_blif_of text ≡ Ok s → AsLoaded s
 
 -- word for word the session that a load of its file gives: what is proved of every load holds of it
 abbrev pub BlifWords : Type 0
-BlifWords = (text : List ℕ) (s : Session) → read_blif_of text ≡ load_done s → load_of (bytes_of s) ≡ load_done s
+BlifWords = (text : List ℕ) (s : Session) → read_blif_of text ≡ Ok s → load_of (bytes_of s) ≡ Ok s
 
 -- and that file is made of bytes
 abbrev pub BlifFile : Type 0
-BlifFile = (text : List ℕ) (s : Session) → read_blif_of text ≡ load_done s → Bytes (bytes_of s)
+BlifFile = (text : List ℕ) (s : Session) → read_blif_of text ≡ Ok s → Bytes (bytes_of s)
 
 -- what is read passes refusal 10's test, before its open tables are worked out
 abbrev pub BlifValid : Type 0
-BlifValid = (text : List ℕ) → (read_blif text).answer ≡ Done → state_fault (read_blif text).session ≡ Done
+BlifValid = (text : List ℕ) (s : Session) → read_blif text ≡ Ok s → state_fault s ≡ Done
 
 -- ## What a cover means, bit by bit
 

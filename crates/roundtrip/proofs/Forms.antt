@@ -9,7 +9,7 @@ use lib.Dec.{leb, eqb}
 use lib.ListN.{length}
 use borrow.Author.Tests.{le-leb, leb-true, leb-false}
 use Rattle.bits.proofs.Ranges.{by_cases}
-use Rattle.network.specs.declared.Answer.TheVariants.{Done}
+use Rattle.network.specs.Answer.{Done}
 use Rattle.network.specs.Bounds.{most_fanins, most_gate_bytes}
 use Rattle.network.specs.Tests.{mark, count_test, range_test}
 use Rattle.network.specs.Load.{GateForm, narrow, wide, form_of}

@@ -8,8 +8,8 @@ use lib.Seq.{take_at, drop_at}
 use Rattle.bits.specs.Lists.{bytes_in}
 use Rattle.bits.proofs.Ranges.{length-places}
 use Rattle.bits.proofs.Bytes.{length-bytes}
+use Rattle.network.specs.Answer.{Done}
 use Rattle.network.specs.declared.Session.{Session}
-use Rattle.network.specs.declared.Answer.TheVariants.{Done}
 use Rattle.network.specs.Bounds.{most_fanins}
 use Rattle.network.specs.Tests.{count_test, fanins_test, width_test}
 use Rattle.network.specs.State.{arity_of, fanins_of}

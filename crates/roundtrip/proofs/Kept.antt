@@ -8,15 +8,15 @@ use lib.Dec.{leb, eqb}
 use lib.ListN.{length, get_or, drop}
 use borrow.Author.Tests.{le-ltb, le-leb, leb-true, eqb-true}
 use Rattle.bits.proofs.Ranges.{and_l, and_r, by_cases}
+use Rattle.std.specs.Prelude.{Result, Ok, Err}
+use Rattle.network.specs.Answer.{Answer, onward}
+use Rattle.network.specs.declared.Refusal.{Refusal}
 use Rattle.network.specs.declared.Session.{Session}
-use Rattle.network.specs.declared.Loaded.{Loaded}
 use Rattle.network.specs.declared.Refusal.TheVariants.{UnexpectedMark}
-use Rattle.network.specs.declared.Answer.{Answer}
-use Rattle.network.specs.declared.Answer.TheVariants.{Done, Refused}
 use Rattle.network.specs.Refusals.{said}
 use Rattle.network.specs.Tests.{first, mark, mark_test}
 use Rattle.network.specs.State.{arity_of}
-use Rattle.network.specs.Load.{started, load_done, onward, fanins_in, after_fanins, narrow, wide, form_of, with_gate, gate_record, read_gates, set_bytes, excluded_in, with_excluded, is_excluded, excluded_record, read_body, header_record, read_of, opened, load_of}
+use Rattle.network.specs.Load.{started, fanins_in, after_fanins, narrow, wide, form_of, with_gate, gate_record, read_gates, set_bytes, excluded_in, with_excluded, is_excluded, excluded_record, read_body, header_record, read_of, opening, load_of}
 use Rattle.network.specs.Write.{gate_bytes, gates_bytes, bytes_of}
 use Rattle.roundtrip.specs.OldFile.{old_table_in, old_gate_tests, old_read_gates, old_read_body, old_read_of, old_load_of, old_gate_bytes, old_gates_bytes, old_bytes_of}
 use Rattle.roundtrip.specs.Kept.{OldRecord, OldFiles, OldBytes, OldWritten}
@@ -38,20 +38,20 @@ pub old-record : OldRecord
 old-record limit rest h = by-mark rest (λ w. let z : ⊥ = h w.0 w.1 in absurd z) (narrow-record limit rest)
 
 -- to the reader of 01 a wide record is refusal 2
-wide-refused : (limit : ℕ) (rest : List ℕ) → (2 ≤ length rest) × (mark rest ≡ wide.opening) → first (old_gate_tests limit rest) ≡ Refused UnexpectedMark
+wide-refused : (limit : ℕ) (rest : List ℕ) → (2 ≤ length rest) × (mark rest ≡ wide.opening) → first (old_gate_tests limit rest) ≡ Err UnexpectedMark
 unfolding mark_test
 wide-refused limit rest w = rw (le-ltb (length rest) 2 w.0, w.1)
 
 -- ## Files
 
 -- a load that is not refusal 2
-abbrev Other : Loaded → Type 0
-Other l = said l.answer ≡ 2 ∷ [] → ⊥
+abbrev Other : Result Session Refusal → Type 0
+Other l = said l ≡ 2 ∷ [] → ⊥
 
 -- what goes on, and is not refusal 2, goes on alike
-onward-other : (a : Answer) (old new : Loaded) → (Other old → new ≡ old) → Other (onward a old) → onward a new ≡ onward a old
-onward-other Done old new f h = f h
-onward-other (Refused r) old new f h = refl
+onward-other : (a : Answer) (old new : Result Session Refusal) → (Other old → new ≡ old) → Other (onward a old) → onward a new ≡ onward a old
+onward-other (Ok _) old new f h = f h
+onward-other (Err r) old new f h = refl
 
 gates-kept : (c g : ℕ) (t : Session) (rest : List ℕ) → Other (old_read_gates c g t rest) → read_gates c g t rest ≡ old_read_gates c g t rest
 unfolding read_gates old_read_gates
@@ -61,7 +61,7 @@ gates-kept (suc c) g t rest h =
     let t' = with_gate t g (get_or rest 2 0) (fanins_in rest) (old_table_in rest) in
     let after = drop 2 (after_fanins rest) in
     by-mark rest
-    (λ w. let z : ⊥ = h (ap (λ (a : Answer). said (onward a (old_read_gates c (g + 1) t' after)).answer) (wide-refused (t.n + g) rest w)) in absurd z)
+    (λ w. let z : ⊥ = h (ap (λ (a : Answer). said (onward a (old_read_gates c (g + 1) t' after))) (wide-refused (t.n + g) rest w)) in absurd z)
     (λ e. rw (narrow-record (t.n + g) rest e, e) (onward-other tests (old_read_gates c (g + 1) t' after) (read_gates c (g + 1) t' after) (gates-kept c (g + 1) t' after) h))
 
 body_kept : (t : Session) (rest : List ℕ) → Other (old_read_body t rest) → read_body t rest ≡ old_read_body t rest
@@ -77,11 +77,11 @@ read_kept bytes h = onward-other (header_record bytes) _ _ (body_kept (started (
 
 load_kept : (bytes : List ℕ) → Other (old_load_of bytes) → load_of bytes ≡ old_load_of bytes
 unfolding load_of old_load_of
-load_kept bytes h = rw (read_kept bytes (λ e. h (stop (old_read_of bytes).answer e)))
+load_kept bytes h = rw (read_kept bytes (λ e. h (stop (old_read_of bytes) e)))
   where
-    stop : (a : Answer) → said a ≡ 2 ∷ [] → said (onward a (load_done (opened (old_read_of bytes).session))).answer ≡ 2 ∷ []
-    stop Done e = e
-    stop (Refused r) e = e
+    stop : (l : Result Session Refusal) → said l ≡ 2 ∷ [] → said (opening l) ≡ 2 ∷ []
+    stop (Ok t) e = e
+    stop (Err r) e = e
 
 pub old-files : OldFiles
 old-files = (read_kept, load_kept)

@@ -12,12 +12,13 @@ use Rattle.bits.specs.Bounds.{most_inputs, gate_places}
 use Rattle.bits.specs.Lists.{bytes_in}
 use Rattle.bits.proofs.Ranges.{by_cases, length-places}
 use Rattle.bits.proofs.Bytes.{length-bytes}
+use Rattle.std.specs.Prelude.{Ok}
 use Rattle.network.specs.declared.Session.{Session}
 use Rattle.network.specs.declared.Refusal.TheVariants.{TrailingBytes}
 use Rattle.network.specs.Bounds.{most_gates, most_outputs, most_fanins, most_set_bytes, most_gate_bytes, most_file_bytes}
 use Rattle.network.specs.Tests.{refuse_if}
 use Rattle.network.specs.State.{arity_of, fanins_of}
-use Rattle.network.specs.Load.{started, load_done, with_output, output_tests, output_record, read_outputs, fanins_in, after_fanins, form_of, table_in, with_gate, gate_tests, gate_record, read_gates, set_bytes, excluded_in, with_excluded, is_excluded, excluded_record, read_body, header_tests, header_record, read_of}
+use Rattle.network.specs.Load.{started, with_output, output_tests, output_record, read_outputs, fanins_in, after_fanins, form_of, table_in, with_gate, gate_tests, gate_record, read_gates, set_bytes, excluded_in, with_excluded, is_excluded, excluded_record, read_body, header_tests, header_record, read_of}
 use Rattle.network.specs.Write.{word_bytes, all_zero, header_bytes, excluded_bytes, form_for, gate_bytes, gates_bytes, output_bytes, outputs_bytes, bytes_of}
 use Rattle.network.proofs.TestLaws.{clear-e, short-e, count-e, passed, went}
 use Rattle.network.proofs.Valid.{valid-e}
@@ -80,10 +81,10 @@ written-length s h =
 -- ## Loaded
 
 module _ (u : Session) where
-  pub outputs-end : (c i : ℕ) (t : Session) (rest : List ℕ) → read_outputs c i t rest ≡ load_done u → length rest ≡ 3 * c
+  pub outputs-end : (c i : ℕ) (t : Session) (rest : List ℕ) → read_outputs c i t rest ≡ Ok u → length rest ≡ 3 * c
   unfolding read_outputs output_record
   outputs-end zero i t rest h =
-      let w = went (refuse_if (leb 1 (length rest)) TrailingBytes) (load_done t) u h in
+      let w = went (refuse_if (leb 1 (length rest)) TrailingBytes) (Ok t) u h in
       let e = leb-false 1 (length rest) (passed (leb 1 (length rest)) TrailingBytes w.0) in
       omega arith
   outputs-end (suc c) i t rest h =
@@ -94,7 +95,7 @@ module _ (u : Session) where
       let d = length-drop 3 rest in
       omega arith
 
-  gates-end : (c g : ℕ) (t : Session) (rest : List ℕ) → read_gates c g t rest ≡ load_done u → length rest ≤ most_gate_bytes * c + 3 * t.p
+  gates-end : (c g : ℕ) (t : Session) (rest : List ℕ) → read_gates c g t rest ≡ Ok u → length rest ≤ most_gate_bytes * c + 3 * t.p
   unfolding read_gates gate_record
   gates-end zero g t rest h = let e = outputs-end t.p 0 t rest h in omega arith
   gates-end (suc c) g t rest h =
@@ -109,7 +110,7 @@ module _ (u : Session) where
       let f = length-drop 3 rest in
       omega arith
 
-  body_end : (t : Session) (rest : List ℕ) → t.n ≤ most_inputs → read_body t rest ≡ load_done u → length rest ≤ 2 + most_set_bytes + most_gate_bytes * t.m + 3 * t.p
+  body_end : (t : Session) (rest : List ℕ) → t.n ≤ most_inputs → read_body t rest ≡ Ok u → length rest ≤ 2 + most_set_bytes + most_gate_bytes * t.m + 3 * t.p
   unfolding read_body
   body_end t rest few h =
       let z = set_bytes t.n in
@@ -124,7 +125,7 @@ module _ (u : Session) where
       omega arith)
       (λ e. let r = gates-end t.m 0 t rest (rw e at h) in omega arith)
 
-  read-end : (bytes : List ℕ) → read_of bytes ≡ load_done u → length bytes ≤ most_file_bytes
+  read-end : (bytes : List ℕ) → read_of bytes ≡ Ok u → length bytes ≤ most_file_bytes
   unfolding read_of header_record
   read-end bytes h =
       let t = started (get_or bytes 2 0) (get_or bytes 3 0) (get_or bytes 4 0) in

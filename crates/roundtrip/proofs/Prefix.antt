@@ -9,9 +9,9 @@ use lib.ListN.{length, get_or, take, drop}
 use lib.Seq.{take_all, take-nil, take-take, get_or-take, length-take-le}
 use borrow.Author.Tests.{le-ltb, le-leb}
 use Rattle.bits.specs.Bounds.{most_inputs}
+use Rattle.std.specs.Prelude.{Ok, Err}
+use Rattle.network.specs.Answer.{Answer, Done}
 use Rattle.network.specs.declared.Session.{Session}
-use Rattle.network.specs.declared.Answer.{Answer}
-use Rattle.network.specs.declared.Answer.TheVariants.{Done, Refused}
 use Rattle.network.specs.Bounds.{most_gates, most_outputs, most_set_bytes, most_gate_bytes, most_file_bytes}
 use Rattle.network.specs.Tests.{or_else, first, length_test, mark_test, range_test}
 use Rattle.network.specs.Load.{started, with_output, output_record, read_outputs, fanins_in, after_fanins, GateForm, form_of, table_in, with_gate, gate_tests, gate_record, read_gates, set_bytes, excluded_in, with_excluded, is_excluded, excluded_record, read_body, header_tests, header_record, read_of, load_of}
@@ -81,8 +81,8 @@ set_next N c t l h =
     rw (inner_cut N 2 z l h, drop-take 2 N l, drop-take z (N - 2) (drop 2 l))
 
 or-ext : (a b b' : Answer) → (a ≡ Done → b ≡ b') → or_else a b ≡ or_else a b'
-or-ext Done b b' f = f refl
-or-ext (Refused r) b b' f = refl
+or-ext (Ok _) b b' f = f refl
+or-ext (Err r) b b' f = refl
 
 -- N takes in the whole record where k is within its bounds
 gate-tests-cut : (N : ℕ) (l : List ℕ) (f : GateForm) (limit : ℕ) → 3 ≤ N → (range_test f.least f.most (get_or l 2 0) ≡ Done → 3 + get_or l 2 0 + f.bytes ≤ N)

@@ -9,15 +9,16 @@ use lib.ListN.{length, take, length-append}
 use lib.Seq.{take_at, drop_at, length-take-le}
 use borrow.Author.Tests.{le-leb}
 use Rattle.bits.specs.Bounds.{most_inputs, gate_places}
+use Rattle.std.specs.Prelude.{Result, Ok}
+use Rattle.network.specs.Answer.{Done}
+use Rattle.network.specs.declared.Refusal.{Refusal}
 use Rattle.network.specs.declared.Session.{Session}
-use Rattle.network.specs.declared.Loaded.{Loaded}
-use Rattle.network.specs.declared.Answer.TheVariants.{Done}
 use Rattle.network.specs.Bounds.{most_gates, most_outputs, most_fanins, excluded_words}
 use Rattle.network.specs.Flat.{loaded_net, current_net}
 use Rattle.network.specs.Tests.{excluded_test}
 use Rattle.network.specs.State.{arity_of}
 use Rattle.network.specs.Valid.{Shaped}
-use Rattle.network.specs.Load.{started, load_done, words_from, set_bytes, is_excluded, with_excluded, excluded_tests, excluded_record, header_tests, header_record, read_outputs, read_gates, read_body, read_of, opened, load_of}
+use Rattle.network.specs.Load.{started, words_from, set_bytes, is_excluded, with_excluded, excluded_tests, excluded_record, header_tests, header_record, read_outputs, read_gates, read_body, read_of, opened, load_of}
 use Rattle.network.specs.Write.{word_bytes, all_zero, header_bytes, excluded_bytes, gate_bytes, gates_bytes, outputs_bytes, bytes_of}
 use Rattle.network.proofs.Bytes.{length-words}
 use Rattle.network.proofs.TestLaws.{clear-i, short-i, mark-i, count-e}
@@ -92,10 +93,10 @@ module _ (s : Session) (shape : Shaped s) (v : Valid s) where
   -- ## Gates and outputs
 
   -- a load that gives all of s
-  abbrev Got : Loaded → Type 0
-  Got l = (t : Session) × (l ≡ load_done t) × Rebuilt s t s.m s.p
+  abbrev Got : Result Session Refusal → Type 0
+  Got l = (t : Session) × (l ≡ Ok t) × Rebuilt s t s.m s.p
 
-  got : {l l' : Loaded} → l ≡ l' → Got l' → Got l
+  got : {l l' : Result Session Refusal} → l ≡ l' → Got l' → Got l
   got e g = (g.0, e ∙ g.1, g.2)
 
   outputs-back : (c i : ℕ) (t : Session) → i + c ≡ s.p → Rebuilt s t s.m i → Got (read_outputs c i t (outputs_bytes s c i))

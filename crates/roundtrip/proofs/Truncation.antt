@@ -10,13 +10,13 @@ use lib.ListN.{length, get_or, take, drop, length-drop}
 use lib.Seq.{get_or-take, length-take-le}
 use borrow.Author.Tests.{lt-ltb, lt-leb, ltb-true, ltb-false}
 use Rattle.bits.proofs.Ranges.{by_cases}
+use Rattle.std.specs.Prelude.{Ok, Err}
+use Rattle.network.specs.Answer.{Answer, Done}
 use Rattle.network.specs.declared.Session.{Session}
 use Rattle.network.specs.declared.Refusal.TheVariants.{Truncated}
-use Rattle.network.specs.declared.Answer.{Answer}
-use Rattle.network.specs.declared.Answer.TheVariants.{Done, Refused}
 use Rattle.network.specs.Bounds.{most_gates}
 use Rattle.network.specs.Tests.{first, length_test, mark_test}
-use Rattle.network.specs.Load.{started, load_done, load_refused, with_output, output_tests, output_record, read_outputs, fanins_in, after_fanins, form_of, table_in, with_gate, gate_tests, gate_record, read_gates, set_bytes, excluded_in, with_excluded, is_excluded, excluded_record, read_body, header_tests, header_record, read_of, load_of}
+use Rattle.network.specs.Load.{started, with_output, output_tests, output_record, read_outputs, fanins_in, after_fanins, form_of, table_in, with_gate, gate_tests, gate_record, read_gates, set_bytes, excluded_in, with_excluded, is_excluded, excluded_record, read_body, header_tests, header_record, read_of, load_of}
 use Rattle.network.proofs.TestLaws.{clear-e, count-e, went}
 use Rattle.network.proofs.Reached.{load_read}
 use Rattle.roundtrip.specs.RoundTrip.{Truncation}
@@ -33,23 +33,23 @@ module _ (N : ℕ) (l : List ℕ) (h : N < length l) where
   cut-length : length (take N l) ≡ N
   cut-length = length-take-le N l (omega arith)
 
-  cut_short : (size : ℕ) → N < size → length_test size (take N l) ≡ Refused Truncated
+  cut_short : (size : ℕ) → N < size → length_test size (take N l) ≡ Err Truncated
   cut_short size b = rw (cut-length, lt-ltb N size b)
 
-  cut-mark : (due : ℕ) → N < 2 → mark_test due (take N l) ≡ Refused Truncated
+  cut-mark : (due : ℕ) → N < 2 → mark_test due (take N l) ≡ Err Truncated
   unfolding mark_test
   cut-mark due b = rw (cut-length, lt-ltb N 2 b)
 
   -- a record opens with its mark and its length
   cut-front : (due size : ℕ) (tests : List Answer) → mark_test due l ≡ Done → N < size
-      → first (mark_test due (take N l) ∷ length_test size (take N l) ∷ tests) ≡ Refused Truncated
+      → first (mark_test due (take N l) ∷ length_test size (take N l) ∷ tests) ≡ Err Truncated
   cut-front due size tests m b = before N 2 (λ q. rw (cut-mark due q)) (λ q. rw (mark-cut N l due q, m, cut_short size b))
 
-  cut-output : (signals : ℕ) → output_record signals l ≡ Done → N < 3 → output_record signals (take N l) ≡ Refused Truncated
+  cut-output : (signals : ℕ) → output_record signals l ≡ Done → N < 3 → output_record signals (take N l) ≡ Err Truncated
   unfolding output_record
   cut-output signals e b = cut-front 0x4E4F 3 (drop 2 (output_tests signals (take N l))) (clear-e (output_tests signals l) e).0 b
 
-  cut-header : header_record l ≡ Done → N < 5 → header_record (take N l) ≡ Refused Truncated
+  cut-header : header_record l ≡ Done → N < 5 → header_record (take N l) ≡ Err Truncated
   unfolding header_record
   cut-header e b = cut-front 0x4E49 5 (drop 2 (header_tests (take N l))) (clear-e (header_tests l) e).0 b
 
@@ -57,7 +57,7 @@ module _ (N : ℕ) (l : List ℕ) (h : N < length l) where
   cut-excluded b = rw (cut-length, lt-leb 2 N b)
 
   -- no gate stands in less than two bytes
-  cut-gates : (c g : ℕ) (t : Session) → 1 ≤ c → N < 2 → read_gates c g t (take N l) ≡ load_refused Truncated
+  cut-gates : (c g : ℕ) (t : Session) → 1 ≤ c → N < 2 → read_gates c g t (take N l) ≡ Err Truncated
   unfolding read_gates gate_record
   cut-gates zero g t a b = let z : ⊥ = omega arith in absurd z
   cut-gates (suc c) g t a b = rw (cut-mark (form_of (take N l)).opening b)
@@ -66,11 +66,11 @@ module _ (N : ℕ) (l : List ℕ) (h : N < length l) where
   left_over : (k : ℕ) → k ≤ N → N - k < length (drop k l)
   left_over k b = simp length-drop (omega arith)
 
-  cut-set : (n : ℕ) → 2 ≤ N → N < 2 + set_bytes n → excluded_record n (take N l) ≡ Refused Truncated
+  cut-set : (n : ℕ) → 2 ≤ N → N < 2 + set_bytes n → excluded_record n (take N l) ≡ Err Truncated
   unfolding excluded_record
   cut-set n a b = rw (drop-take 2 N l, cut_short (N - 2) (drop 2 l) (left_over 2 a) (set_bytes n) (omega arith))
 
-  cut-gate : (limit : ℕ) → gate_record limit l ≡ Done → N < 3 + get_or l 2 0 + (form_of l).bytes → gate_record limit (take N l) ≡ Refused Truncated
+  cut-gate : (limit : ℕ) → gate_record limit l ≡ Done → N < 3 + get_or l 2 0 + (form_of l).bytes → gate_record limit (take N l) ≡ Err Truncated
   unfolding gate_record
   cut-gate limit e b =
       let f = form_of l in
@@ -85,8 +85,8 @@ module _ (N : ℕ) (l : List ℕ) (h : N < length l) where
 -- ## Record after record
 
 module _ (u : Session) where
-  outputs-truncated : (c N i : ℕ) (t : Session) (l : List ℕ) → read_outputs c i t l ≡ load_done u → N < length l
-      → read_outputs c i t (take N l) ≡ load_refused Truncated
+  outputs-truncated : (c N i : ℕ) (t : Session) (l : List ℕ) → read_outputs c i t l ≡ Ok u → N < length l
+      → read_outputs c i t (take N l) ≡ Err Truncated
   unfolding read_outputs
   outputs-truncated zero N i t l h b = let e = outputs-end u 0 i t l h in let z : ⊥ = omega arith in absurd z
   outputs-truncated (suc c) N i t l h b =
@@ -98,8 +98,8 @@ module _ (u : Session) where
       rw (output-cut N l signals a, w.0)
       (output-next c N i t l a ∙ outputs-truncated c (N - 3) (i + 1) t' (drop 3 l) w.1 (left_over N l b 3 a)))
 
-  gates-truncated : (c N g : ℕ) (t : Session) (l : List ℕ) → read_gates c g t l ≡ load_done u → N < length l
-      → read_gates c g t (take N l) ≡ load_refused Truncated
+  gates-truncated : (c N g : ℕ) (t : Session) (l : List ℕ) → read_gates c g t l ≡ Ok u → N < length l
+      → read_gates c g t (take N l) ≡ Err Truncated
   unfolding read_gates
   gates-truncated zero N g t l h b = outputs-truncated t.p N 0 t l h b
   gates-truncated (suc c) N g t l h b =
@@ -115,8 +115,8 @@ module _ (u : Session) where
       rw (gate-cut N l (omega arith) limit (λ _. a), w.0)
       (gate-next N l (omega arith) t g c a ∙ gates-truncated c (N - 3 - k - z) (g + 1) t' rest w.1 left))
 
-  body-truncated : (N : ℕ) (t : Session) (l : List ℕ) → 1 ≤ t.m → read_body t l ≡ load_done u → N < length l
-      → read_body t (take N l) ≡ load_refused Truncated
+  body-truncated : (N : ℕ) (t : Session) (l : List ℕ) → 1 ≤ t.m → read_body t l ≡ Ok u → N < length l
+      → read_body t (take N l) ≡ Err Truncated
   unfolding read_body
   body-truncated N t l some h b =
       let z = set_bytes t.n in
@@ -132,7 +132,7 @@ module _ (u : Session) where
       rw (e, set-cut N t.n l c, w.0) (set_next N t.m t l c ∙ gates-truncated t.m (N - 2 - z) 0 t' rest w.1 left)))
       (λ e. rw e (gates-truncated t.m N 0 t l (rw e at h) b))))
 
-  read-truncated : (N : ℕ) (l : List ℕ) → read_of l ≡ load_done u → N < length l → read_of (take N l) ≡ load_refused Truncated
+  read-truncated : (N : ℕ) (l : List ℕ) → read_of l ≡ Ok u → N < length l → read_of (take N l) ≡ Err Truncated
   unfolding read_of header_record
   read-truncated N l h b =
       let t = started (get_or l 2 0) (get_or l 3 0) (get_or l 4 0) in

@@ -15,7 +15,7 @@ use Rattle.bits.specs.Bounds.{most_inputs}
 use Rattle.bits.specs.Lists.{bytes_in}
 use Rattle.bits.proofs.Ranges.{and_l, and_r}
 use Rattle.bits.proofs.Bytes.{length-bytes, take-bytes}
-use Rattle.network.specs.declared.Answer.TheVariants.{Done}
+use Rattle.network.specs.Answer.{Done}
 use Rattle.network.specs.Bounds.{excluded_words, most_set_bytes}
 use Rattle.network.specs.Tests.{width_test, excluded_test}
 use Rattle.network.specs.Load.{little_endian, words_from, set_bytes}

@@ -9,8 +9,8 @@ use lib.ListN.{get_or, take}
 use Rattle.bits.specs.Bounds.{most_inputs, gate_places}
 use Rattle.bits.specs.Range.{places}
 use Rattle.bits.specs.Lists.{Bytes, bytes_in}
+use Rattle.network.specs.Answer.{Done}
 use Rattle.network.specs.declared.Session.{Session}
-use Rattle.network.specs.declared.Answer.TheVariants.{Done}
 use Rattle.network.specs.Bounds.{most_gates, most_outputs}
 use Rattle.network.specs.State.{arity_of, fanins_of, state_fault}
 use Rattle.network.specs.Load.{set_bytes}

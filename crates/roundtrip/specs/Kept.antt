@@ -1,8 +1,8 @@
 -- What request Five of 02 keeps of the file: 'stored gates with up to four fan-ins keep their record', 'old files load as before, and a
 -- network that needs no new record is written with the bytes the old writer gave'. Assumes nothing.
-use Rattle.std.specs.Prelude.{◌≡◌, List, [], ◌∷◌, ℕ, ◌≤◌, ◌<◌, length}
+use Rattle.std.specs.Prelude.{◌≡◌, List, [], ◌∷◌, ℕ, ◌≤◌, ◌<◌, length, Result}
+use Rattle.network.specs.declared.Refusal.{Refusal}
 use Rattle.network.specs.declared.Session.{Session}
-use Rattle.network.specs.declared.Loaded.{Loaded}
 use Rattle.network.specs.Refusals.{said}
 use Rattle.network.specs.Tests.{first, mark}
 use Rattle.network.specs.State.{arity_of}
@@ -16,8 +16,8 @@ OldRecord = (limit : ℕ) (rest : List ℕ) → (2 ≤ length rest → mark rest
 
 -- whatever was answered but 2, answer and session stay: a file that loaded loads to the same session, and one that was refused with
 -- another number is refused with that number
-abbrev pub Stays : (old new : List ℕ → Loaded) → Type 0
-Stays old new = (bytes : List ℕ) → (said (old bytes).answer ≡ 2 ∷ [] → ⊥) → new bytes ≡ old bytes
+abbrev pub Stays : (old new : List ℕ → Result Session Refusal) → Type 0
+Stays old new = (bytes : List ℕ) → (said (old bytes) ≡ 2 ∷ [] → ⊥) → new bytes ≡ old bytes
 
 abbrev pub OldFiles : Type 0
 OldFiles = Stays old_read_of read_of × Stays old_load_of load_of

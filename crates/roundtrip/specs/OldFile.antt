@@ -1,13 +1,13 @@
 -- The file as 01 alone has it, without request Five of 02: every gate has one to four fan-ins and the record `4E 47`, with a two-byte
 -- table. What that reader answers for every list of bytes, and the bytes that that writer gives. Assumes nothing.
-use Rattle.std.specs.Prelude.{cond, List, [], ◌∷◌, ◌++◌, ℕ, zero, suc, ◌+◌, ◌^◌, get_or, take, drop}
+use Rattle.std.specs.Prelude.{cond, List, [], ◌∷◌, ◌++◌, ℕ, zero, suc, ◌+◌, ◌^◌, get_or, take, drop, Result}
 use Rattle.bits.specs.Lists.{bytes_in}
+use Rattle.network.specs.Answer.{Answer, onward}
+use Rattle.network.specs.declared.Refusal.{Refusal}
 use Rattle.network.specs.declared.Session.{Session}
-use Rattle.network.specs.declared.Loaded.{Loaded}
-use Rattle.network.specs.declared.Answer.{Answer}
 use Rattle.network.specs.Tests.{first, length_test, mark_test, count_test, fanins_test, width_test}
 use Rattle.network.specs.State.{arity_of, fanins_of}
-use Rattle.network.specs.Load.{started, load_done, onward, little_endian, read_outputs, fanins_in, after_fanins, with_gate, set_bytes, excluded_in, with_excluded, is_excluded, excluded_record, header_record, opened}
+use Rattle.network.specs.Load.{started, little_endian, read_outputs, fanins_in, after_fanins, with_gate, set_bytes, excluded_in, with_excluded, is_excluded, excluded_record, header_record, opening}
 use Rattle.network.specs.Write.{header_bytes, excluded_bytes, outputs_bytes}
 
 -- ## Read
@@ -27,23 +27,23 @@ old_gate_tests limit rest =
     ∷ []
 
 -- c gates are due, the first of them number g; then the outputs
-unfoldable pub old_read_gates : ℕ → ℕ → Session → List ℕ → Loaded
+unfoldable pub old_read_gates : ℕ → ℕ → Session → List ℕ → Result Session Refusal
 old_read_gates zero g t rest = read_outputs t.p 0 t rest
 old_read_gates (suc c) g t rest =
     onward (first (old_gate_tests (t.n + g) rest))
     (old_read_gates c (g + 1) (with_gate t g (get_or rest 2 0) (fanins_in rest) (old_table_in rest)) (drop 2 (after_fanins rest)))
 
-unfoldable pub old_read_body : Session → List ℕ → Loaded
+unfoldable pub old_read_body : Session → List ℕ → Result Session Refusal
 old_read_body t rest =
     cond (is_excluded rest)
     (onward (excluded_record t.n rest) (old_read_gates t.m 0 (with_excluded t (excluded_in t.n rest)) (drop (set_bytes t.n) (drop 2 rest))))
     (old_read_gates t.m 0 t rest)
 
-unfoldable pub old_read_of : List ℕ → Loaded
+unfoldable pub old_read_of : List ℕ → Result Session Refusal
 old_read_of bytes = onward (header_record bytes) (old_read_body (started (get_or bytes 2 0) (get_or bytes 3 0) (get_or bytes 4 0)) (drop 5 bytes))
 
-unfoldable pub old_load_of : List ℕ → Loaded
-old_load_of bytes = onward (old_read_of bytes).answer (load_done (opened (old_read_of bytes).session))
+unfoldable pub old_load_of : List ℕ → Result Session Refusal
+old_load_of bytes = opening (old_read_of bytes)
 
 -- ## Written
 
