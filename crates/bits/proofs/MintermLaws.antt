@@ -4,15 +4,14 @@ use mathlib.Core.Bool.{Bool, true, false, not, ◌&&◌, ◌||◌, beq}
 use mathlib.Core.List.{List, ◌∷◌}
 use Prim.Native.Nat.{ℕ, ◌+◌, ◌-◌, ◌*◌, ◌^◌, ◌<◌}
 use native.Mathlib.Nat.{add-zero}
-use native.Mathlib.Decide.{dec_lt, ℕ_discrete}
+use native.Mathlib.Decide.{dec_lt}
 use native.Mathlib.Numerals.{add-one}
 use native.Mathlib.Omega.{arith}
 use lib.Arith.{lt-one}
 use lib.Pow.{pow-add}
 use lib.Bits.{bit_and, bit_or}
 use lib.Dec.{eqb}
-use lib.ListN.{length, get_or, set, length-set}
-use lib.Seq.{get_or-set_same, get_or-set_other}
+use lib.ListN.{get_or}
 use borrow.Author.Tests.{eq-eqb, eqb-true}
 use Rattle.bits.specs.Range.{every}
 use Rattle.bits.specs.Bit.{bit, entry_at, gives, Split}
@@ -50,31 +49,6 @@ module _ (ws fs : List ℕ) (t b : ℕ) where
   gives_more acc keep r s x ex es ih =
       and-more (λ r. bit (get_or fs r 0) b || beq (bit (get_or ws r 0) b) (bit t r)) (bit keep b) acc (get_or fs r 0) s r b ih
       (ap (λ (y : Bool). bit (get_or fs r 0) b || y) (es ∙ ap (beq (bit (get_or ws r 0) b)) ex))
-
--- one turn of a loop that splits words
-pub split_step : (l₀ l : List ℕ) (size lo hi t : ℕ) → t < size → size + t < length l → Split l₀ l size lo hi t
-    → Split l₀ (set (set l (size + t) (bit_and (get_or l₀ t 0) hi)) t (bit_and (get_or l₀ t 0) lo)) size lo hi (t + 1)
-split_step l₀ l size lo hi t ht hl so_far q hq = go (ℕ_discrete q t)
-  where
-    x : ℕ
-    x = bit_and (get_or l₀ t 0) lo
-
-    y : ℕ
-    y = bit_and (get_or l₀ t 0) hi
-
-    once : List ℕ
-    once = set l (size + t) y
-
-    other : (i : ℕ) → (i ≡ t → ⊥) → get_or (set once t x) i 0 ≡ get_or once i 0
-    other i n = get_or-set_other once t i x 0 n
-
-    go : Dec (q ≡ t) → (get_or (set once t x) q 0 ≡ bit_and (get_or l₀ q 0) lo) × (get_or (set once t x) (size + q) 0 ≡ bit_and (get_or l₀ q 0) hi)
-    go (yes e) = rw e (get_or-set_same once t x 0 (omega (arith, length-set l (size + t) y)), other (size + t) (λ f. omega arith) ∙ get_or-set_same l (size + t) y 0 hl)
-    go (no n) =
-        let s = so_far q (omega arith) in (
-          other q n ∙ get_or-set_other l (size + t) q y 0 (λ f. omega arith) ∙ s.0,
-          other (size + q) (λ f. omega arith) ∙ get_or-set_other l (size + t) (size + q) y 0 (λ f. n (omega arith)) ∙ s.1,
-        )
 
 -- the entry 2 ^ r + t has bit r set, and below it the bits of t
 as_parts : (r t : ℕ) → 2 ^ r + t ≡ 1 * 2 ^ r + t

@@ -233,11 +233,9 @@ fn split(given: [u64; SMALL_WORDS], size: usize, lo: u64, hi: u64) -> [u64; SMAL
     ensures { Split given result size lo hi size }
 {
     let mut words = given;
-    let mut t = 0;
-    while t < size {
+    for t in 0..size {
         words[size + t] = given[t] & hi;
         words[t] = given[t] & lo;
-        t += 1;
     }
     words
 }
@@ -254,12 +252,10 @@ pub fn minterms(
 {
     let mut words = [0u64; SMALL_WORDS];
     words[0] = keep;
-    let mut r = 0;
-    while r < k {
+    for r in 0..k {
         let value = ins[r];
         let free = frees[r];
         words = split(words, 1 << r, free | complement(value), free | value);
-        r += 1;
     }
     words
 }

@@ -16,8 +16,7 @@ use Rattle.network.specs.Net.{entry}
 use Rattle.network.specs.Flat.{gate_at}
 use Rattle.network.specs.Valid.{GateOk}
 use Rattle.network.proofs.FlatGates.{entry-at}
-use Rattle.widelut.specs.Functions.{FunctionsAt}
-use Rattle.simulate.specs.Simulated.{words_at, value_at, first_fanins, LutRow, FunctionRows}
+use Rattle.simulate.specs.Simulated.{words_at, value_at, first_fanins, LutRow}
 
 -- one word more of a row whose bits are given by p
 pub filled-bits : (l : List ℕ) (p : ℕ → ℕ → Bool) (i v : ℕ) → i < length l
@@ -84,32 +83,6 @@ store_step rows₀ rows p s i v hs hi c ev = (
     done w h (no n) = other_word rows s i v hi w (omega arith) n ∙ c.1 w (omega arith)
 
 -- ## The row of a gate
-
-module _ (t : ℕ) (rows ss : List ℕ) where
-  -- of no word, and one word more
-  pub row-none : (l : List ℕ) → length l ≡ row_words → LutRow t rows ss 0 l
-  row-none l h = record { long = h; each = λ w b k. absurd (omega arith) }
-
-  pub row_step : (l : List ℕ) (i v : ℕ) → i < row_words → LutRow t rows ss i l → ((b : ℕ) → b < 64 → bit v b ≡ bit t (number (map (λ s. value_at rows s i b) ss)))
-      → LutRow t rows ss (i + 1) (set l i v)
-  row_step l i v h row here = record {
-    long = length-set l i v ∙ row.long;
-    each = filled-bits l (λ w b. bit t (number (map (λ s. value_at rows s w b) ss))) i v (omega (arith, row.long)) row.each here;
-  }
-
-  -- all words
-  pub row_done : (l : List ℕ) (i count : ℕ) → count ≤ i → LutRow t rows ss i l → LutRow t rows ss count l
-  row_done l i count h row = record { long = row.long; each = λ w b k. row.each w b (omega arith) }
-
--- the functions of two signals in one word more
-pub functions-step : (rows old functions : List ℕ) (a b w : ℕ) → FunctionRows rows old a b w
-    → FunctionsAt functions w (get_or rows (row_words * a + w) 0) (get_or rows (row_words * b + w) 0)
-    → ((t v : ℕ) → v < w → get_or functions (row_words * t + v) 0 ≡ get_or old (row_words * t + v) 0) → FunctionRows rows functions a b (w + 1)
-functions-step rows old functions a b w so_far here kept v hv = go (ℕ_discrete v w)
-  where
-    go : Dec (v ≡ w) → FunctionsAt functions v (get_or rows (row_words * a + v) 0) (get_or rows (row_words * b + v) 0)
-    go (yes e) = rw e here
-    go (no n) = λ t ht i hi. ap (λ (x : ℕ). bit x i) (kept t v (omega arith)) ∙ so_far v (omega arith) t ht i hi
 
 -- all fan-ins of a gate pick its entry
 pub row-entry : (t : ℕ) (ks fs rows l : List ℕ) (k g count : ℕ) → GateOk ks fs g most_signals → k ≡ get_or ks g 0 → LutRow t rows (first_fanins fs k g) count l

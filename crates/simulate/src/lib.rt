@@ -15,91 +15,22 @@ use bits::{GATE_PLACES, ROW_WORDS};
 use network::{FANIN_PLACES, MOST_GATES, SIGNAL_WORDS};
 use widelut::FUNCTION_WORDS;
 
-// The table t at the rows of one to four signals, into a lent row.
-fn row1(t: u64, rows: &[u64; SIGNAL_WORDS], count: usize, a: usize, out: &mut [u64; ROW_WORDS])
-    requires count_le_row_words { (count ≤ row_words) × (length out.old ≡ row_words) }
-    requires a_lt_most_signals { a < most_signals }
-    ensures { LutRow t rows.now (a ∷ []) count out.new }
+// Word w of signal s.
+fn word_of(rows: &[u64; SIGNAL_WORDS], s: usize, w: usize) -> u64
+    requires { (s < most_signals) × (w < row_words) }
+    ensures { result ≡ get_or rows.now (row_words * s + w) 0 }
 {
-    let mut w = 0;
-    while w < count {
-        let v = bits::lut1(t, rows[ROW_WORDS * a + w]);
-        out[w] = v;
-        w += 1;
-    }
+    rows[ROW_WORDS * s + w]
 }
 
-fn row2(
-    t: u64,
-    rows: &[u64; SIGNAL_WORDS],
-    count: usize,
-    a: usize,
-    b: usize,
-    out: &mut [u64; ROW_WORDS],
-)
+// The first `count` words of a lent row, each from its number.
+fn fill_row<F: Fn(usize) -> u64>(count: usize, out: &mut [u64; ROW_WORDS], word: F)
     requires count_le_row_words { (count ≤ row_words) × (length out.old ≡ row_words) }
-    requires a_lt_most_signals { (a < most_signals) × (b < most_signals) }
-    ensures { LutRow t rows.now (a ∷ b ∷ []) count out.new }
+    requires word_pre { (w : ℕ) → w < count → F.pre word w }
+    ensures { (length out.new ≡ row_words) × ((w : ℕ) → w < count → F.post word w (get_or out.new w 0)) }
 {
-    let mut w = 0;
-    while w < count {
-        let v = bits::lut2(t, rows[ROW_WORDS * a + w], rows[ROW_WORDS * b + w]);
-        out[w] = v;
-        w += 1;
-    }
-}
-
-fn row3(
-    t: u64,
-    rows: &[u64; SIGNAL_WORDS],
-    count: usize,
-    a: usize,
-    b: usize,
-    c: usize,
-    out: &mut [u64; ROW_WORDS],
-)
-    requires count_le_row_words { (count ≤ row_words) × (length out.old ≡ row_words) }
-    requires a_lt_most_signals { (a < most_signals) × (b < most_signals) × (c < most_signals) }
-    ensures { LutRow t rows.now (a ∷ b ∷ c ∷ []) count out.new }
-{
-    let mut w = 0;
-    while w < count {
-        let v = bits::lut3(
-            t,
-            rows[ROW_WORDS * a + w],
-            rows[ROW_WORDS * b + w],
-            rows[ROW_WORDS * c + w],
-        );
-        out[w] = v;
-        w += 1;
-    }
-}
-
-fn row4(
-    t: u64,
-    rows: &[u64; SIGNAL_WORDS],
-    count: usize,
-    a: usize,
-    b: usize,
-    c: usize,
-    d: usize,
-    out: &mut [u64; ROW_WORDS],
-)
-    requires count_le_row_words { (count ≤ row_words) × (length out.old ≡ row_words) }
-    requires a_lt_most_signals { (a < most_signals) × (b < most_signals) × (c < most_signals) × (d < most_signals) }
-    ensures { LutRow t rows.now (a ∷ b ∷ c ∷ d ∷ []) count out.new }
-{
-    let mut w = 0;
-    while w < count {
-        let v = bits::lut4(
-            t,
-            rows[ROW_WORDS * a + w],
-            rows[ROW_WORDS * b + w],
-            rows[ROW_WORDS * c + w],
-            rows[ROW_WORDS * d + w],
-        );
-        out[w] = v;
-        w += 1;
+    for w in 0..count {
+        out[w] = word(w);
     }
 }
 
@@ -122,20 +53,14 @@ fn function_rows(
     requires { (count ≤ row_words) × (a < most_signals) × (b < most_signals) × (length functions.old ≡ function_words) }
     ensures { FunctionRows rows.now functions.new a b count }
 {
-    let mut w = 0;
-    while w < count {
-        widelut::put_functions(
-            functions,
-            w,
-            rows[ROW_WORDS * a + w],
-            rows[ROW_WORDS * b + w],
-        );
-        w += 1;
+    for w in 0..count {
+        widelut::put_functions(functions, w, word_of(rows, a, w), word_of(rows, b, w));
     }
 }
 
 // The table t at the rows of the first five fan-ins of gate g, or six, into a lent row: by the functions of the first two.
-fn row5(
+fn wide_row(
+    k: usize,
     t: u64,
     fanins: &[u8; FANIN_PLACES],
     rows: &[u64; SIGNAL_WORDS],
@@ -143,9 +68,10 @@ fn row5(
     g: usize,
     out: &mut [u64; ROW_WORDS],
 )
+    requires five_or_six { (5 ≤ k) × (k ≤ 6) }
     requires g_lt_most_gates { (g < most_gates) × (count ≤ row_words) × (length out.old ≡ row_words) }
-    requires signals { Signals fanins.now 5 g }
-    ensures { LutRow t rows.now (first_fanins fanins.now 5 g) count out.new }
+    requires signals { Signals fanins.now k g }
+    ensures { LutRow t rows.now (first_fanins fanins.now k g) count out.new }
 {
     let a = fanin(fanins, g, 0);
     let b = fanin(fanins, g, 1);
@@ -154,55 +80,30 @@ fn row5(
     let e = fanin(fanins, g, 4);
     let mut functions = [0u64; FUNCTION_WORDS];
     function_rows(rows, count, a, b, &mut functions);
-    let mut w = 0;
-    while w < count {
-        let v = widelut::lut5(
-            &functions,
-            t,
-            w,
-            rows[ROW_WORDS * c + w],
-            rows[ROW_WORDS * d + w],
-            rows[ROW_WORDS * e + w],
-        );
-        out[w] = v;
-        w += 1;
+    if k == 5 {
+        return fill_row(count, out, |w| {
+            widelut::lut5(
+                &functions,
+                t,
+                w,
+                word_of(rows, c, w),
+                word_of(rows, d, w),
+                word_of(rows, e, w),
+            )
+        });
     }
-}
-
-fn row6(
-    t: u64,
-    fanins: &[u8; FANIN_PLACES],
-    rows: &[u64; SIGNAL_WORDS],
-    count: usize,
-    g: usize,
-    out: &mut [u64; ROW_WORDS],
-)
-    requires g_lt_most_gates { (g < most_gates) × (count ≤ row_words) × (length out.old ≡ row_words) }
-    requires signals { Signals fanins.now 6 g }
-    ensures { LutRow t rows.now (first_fanins fanins.now 6 g) count out.new }
-{
-    let a = fanin(fanins, g, 0);
-    let b = fanin(fanins, g, 1);
-    let c = fanin(fanins, g, 2);
-    let d = fanin(fanins, g, 3);
-    let e = fanin(fanins, g, 4);
     let f = fanin(fanins, g, 5);
-    let mut functions = [0u64; FUNCTION_WORDS];
-    function_rows(rows, count, a, b, &mut functions);
-    let mut w = 0;
-    while w < count {
-        let v = widelut::lut6(
+    fill_row(count, out, |w| {
+        widelut::lut6(
             &functions,
             t,
             w,
-            rows[ROW_WORDS * c + w],
-            rows[ROW_WORDS * d + w],
-            rows[ROW_WORDS * e + w],
-            rows[ROW_WORDS * f + w],
-        );
-        out[w] = v;
-        w += 1;
-    }
+            word_of(rows, c, w),
+            word_of(rows, d, w),
+            word_of(rows, e, w),
+            word_of(rows, f, w),
+        )
+    });
 }
 
 // The table t at the rows of the fan-ins of gate g, into a lent row.
@@ -222,24 +123,40 @@ pub fn lut_row(
     let k = network::place(arity[g]);
     let a = fanin(fanins, g, 0);
     if k == 1 {
-        return row1(t, rows, count, a, out);
+        return fill_row(count, out, |w| bits::lut1(t, word_of(rows, a, w)));
     }
     let b = fanin(fanins, g, 1);
     if k == 2 {
-        return row2(t, rows, count, a, b, out);
+        return fill_row(
+            count,
+            out,
+            |w| bits::lut2(t, word_of(rows, a, w), word_of(rows, b, w)),
+        );
     }
     let c = fanin(fanins, g, 2);
     if k == 3 {
-        return row3(t, rows, count, a, b, c, out);
+        return fill_row(count, out, |w| {
+            bits::lut3(
+                t,
+                word_of(rows, a, w),
+                word_of(rows, b, w),
+                word_of(rows, c, w),
+            )
+        });
     }
     let d = fanin(fanins, g, 3);
     if k == 4 {
-        return row4(t, rows, count, a, b, c, d, out);
+        return fill_row(count, out, |w| {
+            bits::lut4(
+                t,
+                word_of(rows, a, w),
+                word_of(rows, b, w),
+                word_of(rows, c, w),
+                word_of(rows, d, w),
+            )
+        });
     }
-    if k == 5 {
-        return row5(t, fanins, rows, count, g, out);
-    }
-    row6(t, fanins, rows, count, g, out);
+    wide_row(k, t, fanins, rows, count, g, out);
 }
 
 // Word w of each fan-in of gate g.
@@ -256,26 +173,11 @@ pub fn gather_at(
 {
     let k = network::place(arity[g]);
     let mut ins = [0u64; GATE_PLACES];
-    let mut r = 0;
-    while r < k {
+    for r in 0..k {
         let f = fanin(fanins, g, r);
-        ins[r] = rows[ROW_WORDS * f + w];
-        r += 1;
+        ins[r] = word_of(rows, f, w);
     }
     ins
-}
-
-// The words of input i, into a lent row.
-fn input_row(i: usize, count: usize, out: &mut [u64; ROW_WORDS])
-    requires { (i < 64) × (count ≤ row_words) × (length out.old ≡ row_words) }
-    ensures { (length out.new ≡ row_words) × ((w b : ℕ) → w < count → b < 64 → bit (get_or out.new w 0) b ≡ bit (w * 64 + b) i) }
-{
-    let mut w = 0;
-    while w < count {
-        let v = bits::input_word(i, w as u64);
-        out[w] = v;
-        w += 1;
-    }
 }
 
 // Signal s gets all words of a row.
@@ -284,10 +186,8 @@ pub fn store_row(rows: &mut [u64; SIGNAL_WORDS], s: usize, row: &[u64; ROW_WORDS
     requires rows_len { length rows.old ≡ signal_words }
     ensures { (length rows.new ≡ signal_words) × ((w : ℕ) → w < row_words → words_at rows.new w ≡ set (words_at rows.old w) s (get_or row.now w 0)) }
 {
-    let mut w = 0;
-    while w < ROW_WORDS {
-        rows[ROW_WORDS * s + w] = row[w];
-        w += 1;
+    for (w, word) in row.iter().enumerate() {
+        rows[ROW_WORDS * s + w] = *word;
     }
 }
 
@@ -297,11 +197,9 @@ fn input_rows(n: usize, count: usize, rows: &mut [u64; SIGNAL_WORDS])
     ensures { (length rows.new ≡ signal_words) × ((w : ℕ) → w < count → Inputs (words_at rows.new w) n w) }
 {
     let mut row = [0u64; ROW_WORDS];
-    let mut i = 0;
-    while i < n {
-        input_row(i, count, &mut row);
+    for i in 0..n {
+        fill_row(count, &mut row, |w| bits::input_word(i, w as u64));
         store_row(rows, i, &row);
-        i += 1;
     }
 }
 
@@ -339,9 +237,7 @@ pub fn rows(
     ensures { (length rows.new ≡ signal_words) × Rows arity.now fanins.now tables.now rows.new n m count }
 {
     input_rows(n, count, rows);
-    let mut g = 0;
-    while g < m {
+    for g in 0..m {
         gate_row(n, arity, fanins, tables, count, rows, g);
-        g += 1;
     }
 }

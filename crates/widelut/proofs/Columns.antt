@@ -1,15 +1,10 @@
--- Rows of the functions of two inputs, over plain lists: a fact of each place of a list, one word more of a column, the low digit of a table.
--- Assumes nothing.
+-- Rows of the functions of two inputs, over plain lists: a fact of each place of a list, the low digit of a table. Assumes nothing.
 use mathlib.Core.Path.{◌≡◌, sym, ap, ◌∙◌, subst}
 use mathlib.Core.Bool.{Bool}
 use mathlib.Core.List.{List, [], ◌∷◌}
-use Prim.Native.Nat.{ℕ, zero, suc, ◌+◌, ◌*◌, ◌/◌, ◌%◌, ◌<◌}
+use Prim.Native.Nat.{ℕ, zero, suc, ◌+◌, ◌/◌, ◌%◌, ◌<◌}
 use native.Mathlib.Nat.{add-zero, zero-add, add-suc, suc-add, le_of_suc-le-suc, not-suc-le-zero, div-add-mod'}
-use native.Mathlib.Decide.{ℕ_discrete}
-use native.Mathlib.Omega.{arith}
-use lib.ListN.{length, get_or, set}
-use lib.Seq.{get_or-set_same, get_or-set_other}
-use Rattle.bits.specs.Bounds.{row_words}
+use lib.ListN.{length, get_or}
 use Rattle.bits.specs.Bit.{bit, number}
 use Rattle.bits.proofs.BitLaws.{bit-low}
 use Rattle.bits.proofs.Ranges.{number_lt}
@@ -27,15 +22,6 @@ listed-from F (x ∷ l) s (more here all) (suc t) h =
 
 pub listed : (F : ℕ → ℕ → Type 0) {l : List ℕ} → Listed F 0 l → (t : ℕ) → t < length l → F t (get_or l t 0)
 listed F {l} all t h = subst (λ (m : ℕ). F m (get_or l t 0)) (zero-add t) (listed-from F l 0 all t h)
-
--- word w of one row more
-pub column-step : (l : List ℕ) (p : ℕ → ℕ) (w t v : ℕ) → row_words * t + w < length l → ((q : ℕ) → q < t → get_or l (row_words * q + w) 0 ≡ p q) → v ≡ p t
-    → (q : ℕ) → q < t + 1 → get_or (set l (row_words * t + w) v) (row_words * q + w) 0 ≡ p q
-column-step l p w t v h so_far here q hq = go (ℕ_discrete q t)
-  where
-    go : Dec (q ≡ t) → get_or (set l (row_words * t + w) v) (row_words * q + w) 0 ≡ p q
-    go (yes e) = rw e (get_or-set_same l (row_words * t + w) v 0 h ∙ here)
-    go (no n) = get_or-set_other l (row_words * t + w) (row_words * q + w) v 0 (λ e. n (omega arith)) ∙ so_far q (omega arith)
 
 -- a table of two inputs is its lowest four entries
 pub two-inputs : (t : ℕ) (x y : Bool) → bit (t % 16) (number (x ∷ y ∷ [])) ≡ bit t (number (x ∷ y ∷ []))

@@ -46,10 +46,8 @@ pub fn put_functions(rows: &mut [u64; FUNCTION_WORDS], w: usize, a: u64, b: u64)
     ensures { (length rows.new ≡ function_words) × FunctionsAt rows.new w a b × ((t v : ℕ) → v < w → get_or rows.new (row_words * t + v) 0 ≡ get_or rows.old (row_words * t + v) 0) }
 {
     let words = functions(a, b);
-    let mut t = 0;
-    while t < FUNCTIONS {
-        rows[ROW_WORDS * t + w] = words[t];
-        t += 1;
+    for (t, word) in words.iter().enumerate() {
+        rows[ROW_WORDS * t + w] = *word;
     }
 }
 

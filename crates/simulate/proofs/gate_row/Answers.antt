@@ -1,12 +1,7 @@
 -- `simulate::gate_row` meets its contract. Assumes nothing.
-use mathlib.Core.Path.{refl}
 use native.Mathlib.Omega.{arith}
-use Rattle.simulate.proofs.SimulationSteps.{later, gate-step}
+use Rattle.simulate.proofs.SimulationSteps.{gate-step}
 use Rattle.simulate.proofs.gate_row.Goals as goal
-
-pub lut_row-requires : goal.lut_row-requires
-lut_row-requires c =
-    record { g_lt_most_gates = (omega arith, omega arith, refl); gate_ok = later (omega arith) c.requires.gate_ok }
 
 pub returns : goal.returns
 returns c =
