@@ -54,11 +54,9 @@ fn store_word(
     requires sets_len { length sets.old ≡ gate_words }
     ensures { (length sets.new ≡ gate_words) × ((g : ℕ) → g < m → get_or sets.new (row_words * g + w) 0 ≡ bit_and live (get_or (words_at hs.now w) (n + g) 0)) × ((g v : ℕ) → v < w → get_or sets.new (row_words * g + v) 0 ≡ get_or sets.old (row_words * g + v) 0) }
 {
-    let mut g = 0;
-    while g < m {
+    for g in 0..m {
         let v = live & hs[ROW_WORDS * (n + g) + w];
         sets[ROW_WORDS * g + w] = v;
-        g += 1;
     }
 }
 
@@ -71,10 +69,8 @@ pub fn sets_from(s: Session, hs: &[u64; SIGNAL_WORDS], live: u64, count: usize) 
     let n = network::place(s.n);
     let m = network::place(s.m);
     let mut sets = [0u64; GATE_WORDS];
-    let mut w = 0;
-    while w < count {
+    for w in 0..count {
         store_word(n, m, hs, live, w, &mut sets);
-        w += 1;
     }
     sets
 }
@@ -85,11 +81,9 @@ fn ones_in(sets: &[u64; GATE_WORDS], at: usize, most: usize) -> u16
     ensures { result ≡ ones_in sets.now at most }
 {
     let mut sum: u16 = 0;
-    let mut w = 0;
-    while w < most {
+    for w in 0..most {
         let c = bits::ones(sets[at + w]);
         sum += c as u16;
-        w += 1;
     }
     sum
 }
@@ -104,11 +98,9 @@ pub fn counts_of(s: Session, sets: &[u64; GATE_WORDS]) -> [u16; MOST_GATES]
     let f = bits::frame_of(network::place(s.n));
     let most = f.count;
     let mut counts = [0u16; MOST_GATES];
-    let mut g = 0;
-    while g < m {
+    for g in 0..m {
         let c = ones_in(sets, ROW_WORDS * g, most);
         counts[g] = c;
-        g += 1;
     }
     counts
 }

@@ -18,11 +18,8 @@ fn row_of(rows: &[u64; SIGNAL_WORDS], s: usize) -> [u64; ROW_WORDS]
     ensures { (w : ℕ) → w < row_words → get_or result w 0 ≡ get_or (words_at rows.now w) s 0 }
 {
     let mut l = [0u64; ROW_WORDS];
-    let mut w = 0;
-    while w < ROW_WORDS {
-        l[w] = rows[ROW_WORDS * s + w];
-        w += 1;
-    }
+    let at = ROW_WORDS * s;
+    l.copy_from_slice(&rows[at..at + ROW_WORDS]);
     l
 }
 
@@ -38,11 +35,9 @@ fn intersect(
     requires hs_len { length hs.old ≡ signal_words }
     ensures { (length hs.new ≡ signal_words) × ((w : ℕ) → w < count → words_at hs.new w ≡ set (words_at hs.old w) s (bit_and (get_or (words_at hs.old w) s 0) (bit_or (get_or x.now w 0) (get_or y.now w 0)))) }
 {
-    let mut w = 0;
-    while w < count {
+    for w in 0..count {
         let v = hs[ROW_WORDS * s + w] & (x[w] | y[w]);
         hs[ROW_WORDS * s + w] = v;
-        w += 1;
     }
 }
 
@@ -60,11 +55,9 @@ fn at_outputs(
 {
     let none = [0u64; ROW_WORDS];
     *hs = [0xffff_ffff_ffff_ffffu64; SIGNAL_WORDS];
-    let mut i = 0;
-    while i < p {
+    for i in 0..p {
         let s = network::place(outs[i]);
         intersect(hs, s, excluded, &none, count);
-        i += 1;
     }
 }
 
@@ -86,8 +79,7 @@ fn through_gate(
 {
     let k = network::place(arity[g]);
     let mut free = [0u64; ROW_WORDS];
-    let mut r = 0;
-    while r < k {
+    for r in 0..k {
         simulate::lut_row(
             edges[GATE_PLACES * g + r],
             arity,
@@ -99,7 +91,6 @@ fn through_gate(
         );
         let f = simulate::fanin(fanins, g, r);
         intersect(hs, f, own, &free, count);
-        r += 1;
     }
 }
 
@@ -124,9 +115,7 @@ fn intersected(
 {
     let edges = edges::edge_tables(m, arity, tables);
     at_outputs(p, outs, excluded, count, hs);
-    let mut g = m;
-    while 0 < g {
-        g -= 1;
+    for g in (0..m).rev() {
         let own = row_of(hs, n + g);
         through_gate(arity, fanins, &edges, rows, count, &own, g, hs);
     }
@@ -156,9 +145,7 @@ pub fn compatible_rows(
         n, m, arity, fanins, tables, excluded, p, outs, rows, count, hs,
     );
     let empty = [0u64; ROW_WORDS];
-    let mut i = 0;
-    while i < n {
+    for i in 0..n {
         simulate::store_row(hs, i, &empty);
-        i += 1;
     }
 }

@@ -14,7 +14,6 @@ use Rattle.edges.proofs.EdgeWords.{AtTurn, at-turn-start, at-turn-edge, at-turn-
 
 -- r of n turns are taken: the edge tables of the first r fan-ins stand at place `at` and on, and the words are those of the next turn
 pub record Turning (n k table at : ℕ) (edges₀ : List ℕ) (entries : ℕ) (edges words : List ℕ) (r : ℕ) : Type 0 where
-  pub within : r ≤ n
   pub size : length edges ≡ fanin_places
   pub own : k ≤ n → (q : ℕ) → q < r → q < k → get_or edges (at + q) 0 ≡ edge_table k table q
   pub others : (q : ℕ) → (q < at) ⊎ (at + gate_places ≤ q) → get_or edges q 0 ≡ get_or edges₀ q 0
@@ -26,7 +25,6 @@ module _ (n k table at : ℕ) (edges₀ : List ℕ) (entries : ℕ) (most : n �
   pub turn-first : (words : List ℕ) → length edges₀ ≡ fanin_places → entries ≡ 2 ^ (2 ^ k) - 1 → length words ≡ most_entries → Constants table words (2 ^ n)
       → Turning n k table at edges₀ entries edges₀ words 0
   turn-first words size mask room known = record {
-    within = omega arith;
     size = size;
     own = λ few q h l. absurd (omega arith);
     others = λ q h. refl;
@@ -41,7 +39,6 @@ module _ (n k table at : ℕ) (edges₀ : List ℕ) (entries : ℕ) (most : n �
       let free = bit_and (get_or words 1 0) entries in
       let h : at + r < length edges = omega (arith, t.size) in
       record {
-        within = omega arith;
         size = simp length-set t.size;
         own = λ few. filled-from edges (edge_table k table) at r k free h (t.own few) (λ lr. ap (bit_and (get_or words 1 0)) t.mask ∙ at-turn-edge k table words r lr (t.left few (omega arith)));
         others = λ q lq. get_or-set_other edges (at + r) q free 0 (λ e. ⊎_elim (λ b. omega arith) (λ b. omega arith) lq) ∙ t.others q lq;

@@ -12,11 +12,6 @@ ghost use Rattle.edges.specs.Edges.{Edged, SmallEdged, EdgesPut, Constants, Doub
 use bits::{GATE_PLACES, SMALL_FANINS};
 use network::{FANIN_PLACES, MOST_ENTRIES, MOST_FANINS, MOST_GATES};
 
-// The last fan-ins of a small gate and of any gate.
-const LAST_SMALL: usize = SMALL_FANINS - 1;
-
-const LAST_FANIN: usize = MOST_FANINS - 1;
-
 // At each entry: the bit of x at the entry with fan-in r turned.
 fn turned(x: u64, r: usize) -> u64
     requires { r < 6 }
@@ -33,11 +28,9 @@ fn double(words: &mut [u64; MOST_ENTRIES], r: usize, like: u64)
     ensures { (length words.new ≡ most_entries) × Doubled words.old words.new r like (2 ^ r) }
 {
     let size: usize = 1 << r;
-    let mut f = 0;
-    while f < size {
+    for f in 0..size {
         let w = words[f];
         words[size + f] = w & turned(w, r) & like;
-        f += 1;
     }
 }
 
@@ -49,11 +42,9 @@ fn constants(turns: usize, table: u64) -> [u64; MOST_ENTRIES]
 {
     let mut words = [0u64; MOST_ENTRIES];
     words[0] = 0xffff_ffff_ffff_ffff;
-    let mut r = 0;
-    while r < turns {
+    for r in 0..turns {
         let like = bits::complement(table ^ turned(table, r));
         double(&mut words, r, like);
-        r += 1;
     }
     words
 }
@@ -64,48 +55,28 @@ fn halve(words: &mut [u64; MOST_ENTRIES], size: usize, free: u64)
     requires words_len { length words.old ≡ most_entries }
     ensures { (length words.new ≡ most_entries) × Halved words.old words.new free size }
 {
-    let mut h = 0;
-    while h < size {
+    for h in 0..size {
         let first = words[2 * h];
         let second = words[2 * h + 1];
         words[h] = bits::mux(free, second, first);
-        h += 1;
     }
 }
 
-// By the turns of a small gate, the edge tables of a gate that has no more fan-ins, at place at and on.
+// By so many turns, the edge tables of a gate that has no more fan-ins, at place at and on.
 // At the turn of fan-in r, word h is of the fan-ins already free and of those of h, counted from r.
-// All turns are always taken, which is quicker than to stop after k.
-fn gate_edges(k: usize, table: u64, at: usize, edges: &mut [u64; FANIN_PLACES])
+// All turns are always taken, which is quicker than to stop after k: the compiler makes straight code of each number of turns.
+fn gate_edges<const TURNS: usize>(k: usize, table: u64, at: usize, edges: &mut [u64; FANIN_PLACES])
+    requires turns_le_most_fanins { TURNS ≤ most_fanins }
     requires k_le_most_fanins { (k ≤ most_fanins) × (at + gate_places ≤ fanin_places) }
     requires edges_len { length edges.old ≡ fanin_places }
-    ensures { EdgesPut small_fanins k table at edges.old edges.new }
+    ensures { EdgesPut TURNS k table at edges.old edges.new }
 {
     let entries = bits::mask(1 << k);
-    let mut words = constants(SMALL_FANINS, table);
-    let mut r: usize = 0;
-    while r < SMALL_FANINS {
+    let mut words = constants(TURNS, table);
+    for r in 0..TURNS {
         let free = words[1];
         edges[at + r] = free & entries;
-        halve(&mut words, 1 << (LAST_SMALL - r), free);
-        r += 1;
-    }
-}
-
-// The same by the turns of any gate. A function of its own, so that the compiler makes straight code of either number of turns.
-fn wide_gate_edges(k: usize, table: u64, at: usize, edges: &mut [u64; FANIN_PLACES])
-    requires k_le_most_fanins { (k ≤ most_fanins) × (at + gate_places ≤ fanin_places) }
-    requires edges_len { length edges.old ≡ fanin_places }
-    ensures { EdgesPut most_fanins k table at edges.old edges.new }
-{
-    let entries = bits::mask(1 << k);
-    let mut words = constants(MOST_FANINS, table);
-    let mut r: usize = 0;
-    while r < MOST_FANINS {
-        let freed = words[1];
-        edges[at + r] = freed & entries;
-        halve(&mut words, 1 << (LAST_FANIN - r), freed);
-        r += 1;
+        halve(&mut words, 1 << (TURNS - 1 - r), free);
     }
 }
 
@@ -121,11 +92,9 @@ fn small_edges(
     ensures { SmallEdged arity.now tables.now result m }
 {
     let mut edges = [0u64; FANIN_PLACES];
-    let mut g = 0;
-    while g < m {
+    for g in 0..m {
         let k = network::place(arity[g]);
-        gate_edges(k, tables[g], GATE_PLACES * g, &mut edges);
-        g += 1;
+        gate_edges::<SMALL_FANINS>(k, tables[g], GATE_PLACES * g, &mut edges);
     }
     edges
 }
@@ -141,13 +110,11 @@ pub fn edge_tables(
     ensures { Edged arity.now tables.now result m }
 {
     let mut edges = small_edges(m, arity, tables);
-    let mut g = 0;
-    while g < m {
+    for g in 0..m {
         let k = network::place(arity[g]);
         if SMALL_FANINS < k {
-            wide_gate_edges(k, tables[g], GATE_PLACES * g, &mut edges);
+            gate_edges::<MOST_FANINS>(k, tables[g], GATE_PLACES * g, &mut edges);
         }
-        g += 1;
     }
     edges
 }

@@ -2,14 +2,14 @@
 use mathlib.Core.Path.{◌≡◌, refl, sym, ap, ap₂, ◌∙◌}
 use mathlib.Core.Bool.{Bool, true, false, not, ◌||◌, beq}
 use mathlib.Core.List.{List, [], ◌∷◌, ◌++◌}
-use Prim.Native.Nat.{ℕ, suc, ◌+◌, ◌*◌, ◌≤◌, ◌<◌}
+use Prim.Native.Nat.{ℕ, suc, ◌+◌, ◌*◌, ◌<◌}
 use native.Mathlib.Decide.{ℕ_discrete, dec_lt}
 use native.Mathlib.Omega.{arith}
 use native.Mathlib.Numerals.{add-one}
 use lib.Bits.{bit_or, bit_xor}
 use lib.Dec.{eqb}
-use lib.ListN.{length, get_or, take, set, length-append, length-set}
-use lib.Seq.{ext_get_or, get_or-take, get_or-set_same, get_or-set_other, length-take-le, take-append-le}
+use lib.ListN.{length, get_or, take, length-append}
+use lib.Seq.{ext_get_or, get_or-take, length-take-le, take-append-le}
 use borrow.Author.Tests.{ne_eqb}
 use Rattle.bits.specs.Bounds.{row_words}
 use Rattle.bits.specs.Range.{places, every, any}
@@ -18,7 +18,7 @@ use Rattle.bits.proofs.BitLaws.{bit-or, bit-xor}
 use Rattle.bits.proofs.Cuts.{every-not}
 use Rattle.bits.proofs.Logic.{not-not}
 use Rattle.bits.proofs.Ranges.{length-places, places-at, every-ext, column-at, column-length}
-use Rattle.network.specs.Bounds.{most_signals, signal_words}
+use Rattle.network.specs.Bounds.{most_signals}
 use Rattle.network.specs.Net.{Gate, entry, run, values}
 use Rattle.network.specs.DontCares.{run_inverted, values_inverted, odc}
 use Rattle.network.specs.Flat.{gates_of, net_of}
@@ -79,17 +79,6 @@ module _ (outs rows other : List ℕ) (w b : ℕ) where
           ∙ sym (column-at (words_at l w) b s) ∙ sym (get_or-take (n + m) (column (words_at l w) b) s false h) ∙ ap (λ (q : List Bool). get_or q s false) e
 
 -- ## The rows taken back
-
-pub taken_step : (rows other₀ other : List ℕ) (a i : ℕ) → a ≤ i → i < signal_words → Taken rows other₀ other a i → Taken rows other₀ (set other i (get_or rows i 0)) a (i + 1)
-taken_step rows other₀ other a i ha hi c = (
-  simp length-set c.0,
-  λ q h l. done q h l (ℕ_discrete q i),
-  λ q h. get_or-set_other other i q (get_or rows i 0) 0 (λ e. absurd (omega arith)) ∙ c.2 q h,
-)
-  where
-    done : (q : ℕ) → a ≤ q → q < i + 1 → Dec (q ≡ i) → get_or (set other i (get_or rows i 0)) q 0 ≡ get_or rows q 0
-    done q h l (yes e) = rw e (get_or-set_same other i (get_or rows i 0) 0 (omega (arith, c.0)))
-    done q h l (no n) = get_or-set_other other i q (get_or rows i 0) 0 n ∙ c.1 q h (omega arith)
 
 longer : (vs : List Bool) (v : Bool) (i : ℕ) → i < length vs → get_or (vs ++ v ∷ []) i false ≡ get_or vs i false
 longer vs v i h =

@@ -28,11 +28,9 @@ fn differing(
     requires seen_len { length seen.old ≡ row_words }
     ensures { (length seen.new ≡ row_words) × ((w : ℕ) → w < count → get_or seen.new w 0 ≡ bit_or (get_or seen.old w 0) (bit_xor (get_or rows.now (row_words * s + w) 0) (get_or other.now (row_words * s + w) 0))) }
 {
-    let mut w = 0;
-    while w < count {
+    for w in 0..count {
         let v = seen[w] | (rows[ROW_WORDS * s + w] ^ other[ROW_WORDS * s + w]);
         seen[w] = v;
-        w += 1;
     }
 }
 
@@ -49,11 +47,9 @@ fn observed(
     ensures { (w b : ℕ) → w < count → b < 64 → bit (get_or result w 0) b ≡ any p (λ i. differs (value_at rows.now (get_or outputs.now i 0) w b) (value_at other.now (get_or outputs.now i 0) w b)) }
 {
     let mut l = [0u64; ROW_WORDS];
-    let mut i = 0;
-    while i < p {
+    for i in 0..p {
         let s = network::place(outputs[i]);
         differing(&mut l, rows, other, s, count);
-        i += 1;
     }
     l
 }
@@ -63,12 +59,9 @@ fn restore(other: &mut [u64; SIGNAL_WORDS], rows: &[u64; SIGNAL_WORDS], s: usize
     requires { (s ≤ e) × (e ≤ most_signals) × (length other.old ≡ signal_words) }
     ensures { Taken rows.now other.old other.new (row_words * s) (row_words * e) }
 {
+    let from = ROW_WORDS * s;
     let end = ROW_WORDS * e;
-    let mut i = ROW_WORDS * s;
-    while i < end {
-        other[i] = rows[i];
-        i += 1;
-    }
+    other[from..end].copy_from_slice(&rows[from..end]);
 }
 
 // The live places that are not seen.
@@ -90,11 +83,9 @@ fn store_odc(
     requires odc_len { length odc.old ≡ gate_words }
     ensures { (length odc.new ≡ gate_words) × ((w : ℕ) → w < count → get_or odc.new (row_words * g + w) 0 ≡ table_of 64 (λ b. bit live b && not (bit (get_or seen.now w 0) b))) × ((q : ℕ) → q < row_words * g → get_or odc.new q 0 ≡ get_or odc.old q 0) }
 {
-    let mut w = 0;
-    while w < count {
+    for w in 0..count {
         let v = odc_word(live, seen[w]);
         odc[ROW_WORDS * g + w] = v;
-        w += 1;
     }
 }
 
@@ -123,12 +114,10 @@ pub fn odc_words(
 {
     let masks = incremental::fanin_masks(n, m, arity, fanins);
     let mut other = *rows;
-    let mut g = a;
-    while g < e {
+    for g in a..e {
         incremental::invert(n, m, arity, fanins, *tables, &masks, count, g, &mut other);
         let seen = observed(p, outs, rows, &other, count);
         store_odc(odc, &seen, live, count, g);
         restore(&mut other, rows, n + g, n + m);
-        g += 1;
     }
 }

@@ -1,5 +1,5 @@
 use mathlib.Core.Path.{◌≡◌}
-use Prim.Native.Nat.{◌-◌, ◌*◌, ◌≤◌}
+use Prim.Native.Nat.{◌*◌}
 use lib.ListN.{length, replicate}
 use Rattle.bits.specs.Bounds.{row_words}
 use Rattle.bits.proofs.Ranges.{Changed}
@@ -8,7 +8,4 @@ use Rattle.compatible.specs.Words.{ones_in}
 use Rattle.compatible.proofs.counts_of.Given as goal
 
 abbrev pub invariant-loop-g : goal.invariant-loop-g
-invariant-loop-g l = (l.g ≤ l.m) × (length l.counts ≡ most_gates) × Changed (λ q v. ones_in l.sets (row_words * q) l.most) (replicate most_gates 0) l.counts l.g
-
-abbrev pub decreases-loop-g : goal.decreases-loop-g
-decreases-loop-g l = l.m - l.g
+invariant-loop-g l = (length l.counts ≡ most_gates) × Changed (λ q v. ones_in l.sets (row_words * q) l.most) (replicate most_gates 0) l.counts l.g

@@ -10,18 +10,14 @@ use Rattle.edges.proofs.EdgeWords.{doubled-step}
 use Rattle.edges.proofs.double.Goals as goal
 
 pub loop-f-init : goal.loop-f-init
-loop-f-init c = (omega arith, one_shl c.args.r 64 (omega arith), pow_mono {j = most_fanins - 1} (omega arith), c.requires.words_len, (λ f h. refl, λ f h. absurd (omega arith)))
+loop-f-init c = (one_shl c.args.r 64 (omega arith), pow_mono {j = most_fanins - 1} (omega arith), c.requires.words_len, (λ f h. refl, λ f h. absurd (omega arith)))
 
 pub loop-f-preserved : goal.loop-f-preserved
 loop-f-preserved c =
     let a = c.args in
     let l = c.loop-f in (
-      omega arith,
+      l.invariant.0,
       l.invariant.1,
-      l.invariant.2,
-      simp length-set l.invariant.3,
-      doubled-step a.words.now l.words a.r _ a.like l.f c.turned.result l.invariant.1 (omega arith) (omega arith) c.turned.ensures l.invariant.4,
+      simp length-set l.invariant.2,
+      doubled-step a.words.now l.words a.r _ a.like l.f c.turned.result l.invariant.0 (omega arith) (omega arith) c.turned.ensures l.invariant.3,
     )
-
-pub returns : goal.returns
-returns c = (c.loop-f.invariant.3, (c.loop-f.invariant.4.0, λ f h. c.loop-f.invariant.4.1 f (omega arith)))

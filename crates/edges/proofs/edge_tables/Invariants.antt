@@ -1,12 +1,8 @@
 use mathlib.Core.Path.{◌≡◌}
-use Prim.Native.Nat.{◌-◌, ◌≤◌}
 use lib.ListN.{length}
 use Rattle.network.specs.Bounds.{fanin_places}
 use Rattle.edges.proofs.EdgeWords.{EdgedPast}
 use Rattle.edges.proofs.edge_tables.Given as goal
 
 abbrev pub invariant-loop-g : goal.invariant-loop-g
-invariant-loop-g l = (l.g ≤ l.m) × (length l.edges ≡ fanin_places) × EdgedPast l.arity l.tables l.edges l.m l.g
-
-abbrev pub decreases-loop-g : goal.decreases-loop-g
-decreases-loop-g l = l.m - l.g
+invariant-loop-g l = (length l.edges ≡ fanin_places) × EdgedPast l.arity l.tables l.edges l.m l.g

@@ -9,44 +9,21 @@ use Rattle.bits.specs.Bit.{bit}
 use Rattle.network.specs.Bounds.{most_signals}
 use Rattle.simulate.specs.Simulated.{words_at}
 use Rattle.simulate.proofs.RowLaws.{words_long}
-use Rattle.compatible.specs.Words.{outputs_leave}
 use Rattle.compatible.proofs.BackwardSteps.{start_first, start-step}
 use Rattle.compatible.proofs.sets.at_outputs.Goals as goal
-use Rattle.compatible.proofs.sets.at_outputs.Goals.{After-place-s}
-
-fits : (c : After-place-s) → c.place-s.result < most_signals
-fits c =
-    omega (arith, c.place-s.ensures, c.requires.outputs_ok.each c.loop-i.i (omega arith))
 
 pub loop-i-init : goal.loop-i-init
-loop-i-init c = (omega arith, refl, λ w b s hw hb hs. start_first c.args.outs.now w b s (bit (get_or c.args.excluded.now w 0) b) (omega arith) hb hs)
-
-pub bounds-outs-i : goal.bounds-outs-i
-bounds-outs-i c = omega (arith, c.requires.outputs_ok.most)
-
-pub intersect-requires : goal.intersect-requires
-intersect-requires c =
-    record { s_lt_most_signals = (fits (goal.at.intersect-requires c).After-place-s, c.requires.count_le_row_words); hs_len = c.loop-i.invariant.1 }
-
-pub overflow_add-i : goal.overflow_add-i
-overflow_add-i c = omega (arith, c.requires.outputs_ok.most)
+loop-i-init c = (refl, λ w b s hw hb hs. start_first c.args.outs.now w b s (bit (get_or c.args.excluded.now w 0) b) (omega arith) hb hs)
 
 pub loop-i-preserved : goal.loop-i-preserved
 loop-i-preserved c =
     let l = c.loop-i in
     let a = c.args in
     let f = c.place-s.result in
+    let fits : f < most_signals = omega (arith, c.place-s.ensures, c.requires.outputs_ok.each l.i (omega arith)) in
     let alone : (w : ℕ) → w < row_words → bit_or (get_or a.excluded.now w 0) (get_or (replicate row_words 0) w 0) ≡ get_or a.excluded.now w 0
     = λ w h. ap (bit_or (get_or a.excluded.now w 0)) (get_or-replicate {A = ℕ} row_words w 0 0 h) ∙ or_zero_r (get_or a.excluded.now w 0) in (
-      omega arith,
       c.intersect.ensures.0,
       λ w b x hw hb hx. rw (c.intersect.ensures.1 w hw ∙ ap (λ (v : ℕ). set (words_at l.hs w) f (bit_and (get_or (words_at l.hs w) f 0) v)) (alone w (omega arith))) (start-step (words_at l.hs w) a.outs.now l.i f (bit_and (get_or (words_at l.hs w) f 0) (get_or a.excluded.now w 0)) (get_or a.excluded.now w 0) b x
-          (omega (arith, fits (goal.at.loop-i-preserved c).After-place-s, words_long l.hs w)) c.place-s.ensures refl (l.invariant.2 w b x hw hb hx)),
+          (omega (arith, words_long l.hs w)) c.place-s.ensures refl (l.invariant.1 w b x hw hb hx)),
     )
-
-pub returns : goal.returns
-returns c =
-    let a = c.args in
-    let l = c.loop-i in
-    let e : l.i ≡ a.p = omega arith in
-    (l.invariant.1, λ w b x hw hb hx. l.invariant.2 w b x hw hb hx ∙ ap (λ (i : ℕ). outputs_leave a.outs.now i (bit (get_or a.excluded.now w 0) b) x) e)

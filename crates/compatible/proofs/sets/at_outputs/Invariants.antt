@@ -1,5 +1,5 @@
 use mathlib.Core.Path.{◌≡◌}
-use Prim.Native.Nat.{ℕ, ◌-◌, ◌≤◌, ◌<◌}
+use Prim.Native.Nat.{ℕ, ◌<◌}
 use lib.ListN.{length, get_or}
 use Rattle.bits.specs.Bit.{bit}
 use Rattle.network.specs.Bounds.{most_signals, signal_words}
@@ -9,8 +9,5 @@ use Rattle.compatible.proofs.sets.at_outputs.Given as goal
 
 abbrev pub invariant-loop-i : goal.invariant-loop-i
 invariant-loop-i l =
-    (l.i ≤ l.p) × (length l.hs ≡ signal_words)
+    (length l.hs ≡ signal_words)
     × ((w b s : ℕ) → w < l.count → b < 64 → s < most_signals → bit (get_or (words_at l.hs w) s 0) b ≡ outputs_leave l.outs l.i (bit (get_or l.excluded w 0) b) s)
-
-abbrev pub decreases-loop-i : goal.decreases-loop-i
-decreases-loop-i l = l.p - l.i

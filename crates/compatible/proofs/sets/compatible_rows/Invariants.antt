@@ -1,6 +1,6 @@
 use mathlib.Core.Path.{◌≡◌}
 use mathlib.Core.Bool.{◌&&◌}
-use Prim.Native.Nat.{ℕ, ◌-◌, ◌≤◌, ◌<◌}
+use Prim.Native.Nat.{ℕ, ◌<◌}
 use lib.Dec.{leb}
 use lib.ListN.{length, get_or}
 use Rattle.bits.specs.Bit.{bit, column}
@@ -13,9 +13,6 @@ use Rattle.compatible.proofs.sets.compatible_rows.Given as goal
 
 abbrev pub invariant-loop-i : goal.invariant-loop-i
 invariant-loop-i l =
-    (l.i ≤ l.n) × (length l.hs ≡ signal_words)
+    (length l.hs ≡ signal_words)
     × ((w : ℕ) → w < l.count → (b : ℕ) → b < 64 → (s : ℕ) → s < most_signals
     → bit (get_or (words_at l.hs w) s 0) b ≡ (leb l.i s && compatible_from (outputs_leave l.outs l.p (bit (get_or l.excluded w 0) b)) (column (words_at l.rows w) b) l.n (gates_of l.arity l.fanins l.tables l.m) s))
-
-abbrev pub decreases-loop-i : goal.decreases-loop-i
-decreases-loop-i l = l.n - l.i

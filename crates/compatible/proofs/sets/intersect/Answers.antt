@@ -7,23 +7,13 @@ use lib.Bits.{bit_and, bit_or}
 use lib.ListN.{get_or}
 use Rattle.bits.specs.Bounds.{row_words}
 use Rattle.simulate.specs.Simulated.{words_at}
-use Rattle.simulate.proofs.RowLaws.{words-at, store-first, store_step}
+use Rattle.simulate.proofs.RowLaws.{words-at, store_step}
 use Rattle.compatible.proofs.sets.intersect.Goals as goal
-
-pub loop-w-init : goal.loop-w-init
-loop-w-init c = let a = c.args in (omega arith, store-first a.hs.now (λ v. bit_and (get_or (words_at a.hs.now v) a.s 0) (bit_or (get_or a.x.now v 0) (get_or a.y.now v 0))) a.s c.requires.hs_len)
 
 pub loop-w-preserved : goal.loop-w-preserved
 loop-w-preserved c =
     let l = c.loop-w in
     let a = c.args in
-    let x = bit_or (get_or a.x.now l.w 0) (get_or a.y.now l.w 0) in (
-      omega arith,
-      store_step a.hs.now l.hs (λ v. bit_and (get_or (words_at a.hs.now v) a.s 0) (bit_or (get_or a.x.now v 0) (get_or a.y.now v 0))) a.s l.w (bit_and (get_or l.hs (row_words * a.s + l.w) 0) x) (omega arith) (omega arith) l.invariant.1
-          (ap (λ (y : ℕ). bit_and y x) (sym (words-at l.hs l.w a.s (omega arith)) ∙ ap (λ (z : List ℕ). get_or z a.s 0) (l.invariant.1.2 l.w (omega arith) (omega arith)))),
-    )
-
-pub returns : goal.returns
-returns c =
-    let l = c.loop-w in
-    (l.invariant.1.0, λ w h. l.invariant.1.1 w (omega arith))
+    let x = bit_or (get_or a.x.now l.w 0) (get_or a.y.now l.w 0) in
+    store_step a.hs.now l.hs (λ v. bit_and (get_or (words_at a.hs.now v) a.s 0) (bit_or (get_or a.x.now v 0) (get_or a.y.now v 0))) a.s l.w (bit_and (get_or l.hs (row_words * a.s + l.w) 0) x) (omega arith) (omega arith) l.invariant
+    (ap (λ (y : ℕ). bit_and y x) (sym (words-at l.hs l.w a.s (omega arith)) ∙ ap (λ (z : List ℕ). get_or z a.s 0) (l.invariant.2 l.w (omega arith) (omega arith))))

@@ -1,4 +1,3 @@
-use Prim.Native.Nat.{◌-◌, ◌≤◌}
 use lib.Bits.{bit_and, bit_or}
 use lib.ListN.{get_or}
 use Rattle.simulate.specs.Simulated.{words_at}
@@ -6,7 +5,4 @@ use Rattle.simulate.proofs.RowLaws.{Stored}
 use Rattle.compatible.proofs.sets.intersect.Given as goal
 
 abbrev pub invariant-loop-w : goal.invariant-loop-w
-invariant-loop-w l = (l.w ≤ l.count) × Stored l.initial.hs l.hs (λ v. bit_and (get_or (words_at l.initial.hs v) l.s 0) (bit_or (get_or l.x v 0) (get_or l.y v 0))) l.s l.w
-
-abbrev pub decreases-loop-w : goal.decreases-loop-w
-decreases-loop-w l = l.count - l.w
+invariant-loop-w l = Stored l.initial.hs l.hs (λ v. bit_and (get_or (words_at l.initial.hs v) l.s 0) (bit_or (get_or l.x v 0) (get_or l.y v 0))) l.s l.w
