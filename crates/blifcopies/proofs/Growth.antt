@@ -10,6 +10,7 @@ use native.Mathlib.Decide.{ℕ_discrete}
 use lib.ListN.{length, get_or, set, take, replicate, length-append}
 use lib.Seq.{take-suc, get_or-set_same, get_or-set_other}
 use borrow.Author.Tests.{lt-ltb, le-ltb}
+use mir.Val.{bool_byte}
 use Rattle.bits.specs.Bounds.{most_inputs, gate_places}
 use Rattle.bits.specs.Range.{num, places, count}
 use Rattle.bits.proofs.Ranges.{by_cases, lt-cases, length-places, places-at, places-ext}
@@ -52,6 +53,14 @@ copied-not t outs i e = rw e
 
 pub count_next : (p : ℕ → Bool) (i : ℕ) → count (i + 1) p ≡ count i p + num (p i)
 count_next p i = rw add-one
+
+pub bool_byte-num : (b : Bool) → bool_byte b ≡ num b
+bool_byte-num true = refl
+bool_byte-num false = refl
+
+pub num-few : (b : Bool) → num b ≤ 1
+num-few true = omega arith
+num-few false = omega arith
 
 -- lists that are the same at their first i places
 take_same : (i : ℕ) (a b : List ℕ) → i ≤ length a → i ≤ length b → ((j : ℕ) → j < i → get_or a j 0 ≡ get_or b j 0) → take i a ≡ take i b

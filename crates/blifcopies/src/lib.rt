@@ -3,7 +3,7 @@
 
 ghost use Rattle.std.specs.Prelude.{◌≡◌, ◌+◌, ◌*◌, ◌<◌, ◌≤◌, length};
 ghost use Rattle.bits.specs.Bounds.{most_inputs};
-ghost use Rattle.bits.specs.Range.{num, count};
+ghost use Rattle.bits.specs.Range.{count};
 ghost use Rattle.network.specs.declared.Answer.TheVariants.{Done};
 ghost use Rattle.network.specs.Bounds.{most_gates, most_outputs};
 ghost use Rattle.network.specs.Flat.{current_net};
@@ -28,27 +28,14 @@ fn copy_due(n: u8, outs: [u8; MOST_OUTPUTS], i: usize) -> bool
     state::member(&outs[0..i], x)
 }
 
-// How many gates output i adds.
-fn added(n: u8, outs: [u8; MOST_OUTPUTS], i: usize) -> u8
-    requires { i < most_outputs }
-    ensures { (result ≡ num (copy_due n outs i)) × (result ≤ 1) }
-{
-    if copy_due(n, outs, i) {
-        return 1;
-    }
-    0
-}
-
 // How many gates the first p outputs add.
 fn copies(n: u8, outs: [u8; MOST_OUTPUTS], p: usize) -> u8
     requires { p ≤ most_outputs }
     ensures { (result ≡ count p (copy_due n outs)) × (result ≤ most_outputs) × (length outs ≡ most_outputs) }
 {
     let mut c: u8 = 0;
-    let mut i: usize = 0;
-    while i < p {
-        c += added(n, outs, i);
-        i += 1;
+    for i in 0..p {
+        c += u8::from(copy_due(n, outs, i));
     }
     c
 }
@@ -95,17 +82,13 @@ pub fn outgoing(s: Session) -> Session
     requires { (state_fault s ≡ Done) × (copies_test s ≡ Done) }
     ensures { Ready result × (current_net result ≡ outgoing (current_net s)) }
 {
-    let p = s.p as usize;
+    let p = usize::from(s.p);
     let outs = s.outputs;
     let mut t = freed(s);
-    let mut i: usize = 0;
-    while i < p {
-        if !copy_due(t.n, outs, i) {
-            i += 1;
-            continue;
+    for i in 0..p {
+        if copy_due(t.n, outs, i) {
+            t = with_copy(t, i, outs[i]);
         }
-        t = with_copy(t, i, outs[i]);
-        i += 1;
     }
     t
 }

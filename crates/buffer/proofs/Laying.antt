@@ -1,12 +1,13 @@
 -- What is laid one stretch after the other, and place after place. Assumes nothing.
 use mathlib.Core.Path.{◌≡◌, refl, sym, ap, ◌∙◌}
 use mathlib.Core.List.{List, [], ◌∷◌, ◌++◌}
-use Prim.Native.Nat.{ℕ, zero, suc, ◌+◌, ◌-◌, ◌≤◌, ◌<◌}
-use native.Mathlib.Numerals.{add-one}
+use Prim.Native.Nat.{ℕ, zero, suc, ◌+◌, ◌-◌, ◌≤◌}
 use native.Mathlib.Nat.{add-zero}
 use native.Mathlib.Omega.{arith}
-use lib.ListN.{length, get_or, take, drop, set, length-append, length-drop, drop_of_length-le}
-use lib.Seq.{sets, sets-eq, take-suc, take-append_seam, drop-cons, get_or-drop, length-sets}
+use lib.ListN.{length, get_or, take, drop, set, length-append, length-drop}
+use lib.Seq.{sets, sets-eq, take_all, take-suc, take-append_seam, get_or-drop, length-sets}
+use borrow.Rule.Slice.PartMut.{put_mid}
+use Rattle.std.proofs.lemmas.Slice.{put_mid-paste}
 use Rattle.bits.specs.Range.{places}
 use Rattle.bits.specs.Lists.{overwritten}
 use Rattle.buffer.specs.Laid.{Room, Laid}
@@ -99,19 +100,13 @@ pending_done l e = record { buffer = rw e at l.same; behind = let p = l.place in
 pub stored : (b : List ℕ) (a x v : ℕ) → v ≡ x → Laid b a (x ∷ []) (set b a v) (a + 1)
 stored b a x v e = record { buffer = rw e; behind = refl }
 
--- of xs, from place `at` on, the first i are laid, and the next goes to place a
-module _ {b₀ xs b : List ℕ} {at a : ℕ} (i : ℕ) (l : Pending b₀ at xs b a (drop i xs)) where
-  rest : i < length xs → drop i xs ≡ (get_or xs i 0 ∷ []) ++ drop (i + 1) xs
-  rest h = rw add-one (drop-cons xs i 0 h)
+-- ## A whole stretch at once
 
-  pub lay-place : i < length xs → Room b₀ at xs → a < length b
-  lay-place h r = let k : a + 1 ≤ length b = pending-room (get_or xs i 0 ∷ []) (drop (i + 1) xs) l (rest h) r in omega arith
-
-  pub lay-more : i < length xs → Pending b₀ at xs (set b a (get_or xs i 0)) (a + 1) (drop (i + 1) xs)
-  lay-more h = pending-step (drop (i + 1) xs) l (rest h) (stored b a (get_or xs i 0) (get_or xs i 0) refl)
-
-  pub lay-all : length xs ≤ i → Laid b₀ at xs b a
-  lay-all h = pending_done l (drop_of_length-le xs h)
+pub laid-whole : (l vs new : List ℕ) (at : ℕ) → vs ≡ new → Room l at new → Laid l at new (put_mid at (at + length new - at) l vs) (at + length new)
+laid-whole l vs new at e h = record {
+  buffer = put_mid-paste at (at + length new - at) l vs new (length new) e (omega arith) refl ∙ rw (take_all (length new) new (omega arith), sets-eq new l at h);
+  behind = refl;
+}
 
 -- ## A part of a list, place by place
 

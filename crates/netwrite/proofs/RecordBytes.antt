@@ -8,6 +8,7 @@ use native.Mathlib.Omega.{arith}
 use lib.Dec.{eqb}
 use lib.ListN.{length, get_or, take, drop, length-append}
 use lib.Seq.{take-append-add, drop-cons, length-take-le}
+use Rattle.std.specs.List.{list_all}
 use Rattle.bits.specs.Bounds.{gate_places}
 use Rattle.bits.specs.Lists.{bytes_in}
 use Rattle.bits.proofs.Ranges.{length-places}
@@ -41,11 +42,9 @@ length_part ws z e h = length-take-le z (word_bytes ws) (let n = length-words ws
 
 -- ## The excluded set
 
-pub zero-next : (ws : List ℕ) (w : ℕ) → w < length ws → get_or ws w 0 ≡ 0 → all_zero (drop (w + 1) ws) ≡ all_zero (drop w ws)
-zero-next ws w h e = rw (drop-cons ws w 0 h, e, add-one)
-
-pub zero-not : (ws : List ℕ) (w : ℕ) → w < length ws → eqb (get_or ws w 0) 0 ≡ false → false ≡ all_zero (drop w ws)
-zero-not ws w h e = rw (drop-cons ws w 0 h, e)
+pub all_zero-is : (ws : List ℕ) → all_zero ws ≡ list_all (λ w. eqb w 0) ws
+all_zero-is [] = refl
+all_zero-is (w ∷ ws) = rw (all_zero-is ws)
 
 -- left out, or two bytes and the set
 pub excluded-none : (s : Session) → all_zero s.excluded ≡ true → excluded_bytes s ≡ []

@@ -27,16 +27,14 @@ fn put_words(buf: &mut [u8], at: usize, words: [u64; EXCLUDED_WORDS], z: usize) 
     requires { (z ≤ most_set_bytes) × (at + z ≤ length buf.old) }
     ensures { Laid buf.old at (take z (word_bytes words)) buf.new result }
 {
+    let full = z / 8;
+    let left = z % 8;
     let mut a = at;
-    let mut left = z;
-    let mut w: usize = 0;
-    while 8 <= left {
+    for w in 0..full {
         a = buffer::put_bytes(buf, a, words[w], 8);
-        left -= 8;
-        w += 1;
     }
     if 0 < left {
-        return buffer::put_bytes(buf, a, words[w], left);
+        return buffer::put_bytes(buf, a, words[full], left);
     }
     a
 }
@@ -45,14 +43,7 @@ fn put_words(buf: &mut [u8], at: usize, words: [u64; EXCLUDED_WORDS], z: usize) 
 fn none(words: [u64; EXCLUDED_WORDS]) -> bool
     ensures { result ≡ all_zero words }
 {
-    let mut w: usize = 0;
-    while w < EXCLUDED_WORDS {
-        if words[w] != 0 {
-            return false;
-        }
-        w += 1;
-    }
-    true
+    words.iter().all(|w| *w == 0)
 }
 
 fn put_excluded(buf: &mut [u8], at: usize, s: Session) -> usize
@@ -104,12 +95,10 @@ fn put_gates(buf: &mut [u8], at: usize, s: Session) -> usize
     requires { (state_fault s ≡ Done) × Room buf.old at (gates_bytes s s.m 0) }
     ensures { Laid buf.old at (gates_bytes s s.m 0) buf.new result }
 {
-    let m = s.m as usize;
+    let m = usize::from(s.m);
     let mut a = at;
-    let mut g: usize = 0;
-    while g < m {
+    for g in 0..m {
         a = put_gate(buf, a, s, g);
-        g += 1;
     }
     a
 }
@@ -118,14 +107,12 @@ fn put_outputs(buf: &mut [u8], at: usize, s: Session) -> usize
     requires { (s.p ≤ most_outputs) × Room buf.old at (outputs_bytes s s.p 0) }
     ensures { Laid buf.old at (outputs_bytes s s.p 0) buf.new result }
 {
-    let p = s.p as usize;
+    let p = usize::from(s.p);
     let mut a = at;
-    let mut i: usize = 0;
-    while i < p {
+    for i in 0..p {
         let x = s.outputs[i];
         let output = [0x4E, 0x4F, x];
         a = buffer::copy(buf, a, &output);
-        i += 1;
     }
     a
 }
@@ -147,14 +134,12 @@ fn gates_size(s: Session) -> usize
     requires { state_fault s ≡ Done }
     ensures { (result ≡ length (gates_bytes s s.m 0)) × (result ≤ most_gates * most_gate_bytes) }
 {
-    let m = s.m as usize;
+    let m = usize::from(s.m);
     let mut size: usize = 0;
-    let mut g: usize = 0;
-    while g < m {
+    for g in 0..m {
         let k = s.arity[g];
         let form = form_for(k);
-        size += 3 + (k as usize) + form.bytes;
-        g += 1;
+        size += 3 + usize::from(k) + form.bytes;
     }
     size
 }

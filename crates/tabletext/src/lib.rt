@@ -20,12 +20,8 @@ pub fn digits_of(s: Session) -> usize
 {
     let m = network::place(s.m);
     let arity = s.arity;
-    let mut g: usize = 0;
-    while g < m {
-        if NARROW_FANINS < arity[g] {
-            return text::WORD_DIGITS;
-        }
-        g += 1;
+    if arity[..m].iter().any(|k| NARROW_FANINS < *k) {
+        return text::WORD_DIGITS;
     }
     NARROW_DIGITS
 }

@@ -54,9 +54,7 @@ pub fn put_hex(buf: &mut [u8], at: usize, x: u64, c: usize) -> usize
     ensures { Laid buf.old at (hex c x) buf.new result }
 {
     let mut a = at;
-    let mut left = c;
-    while 0 < left {
-        left -= 1;
+    for left in (0..c).rev() {
         buf[a] = digit((x >> (4 * left)) % 16);
         a += 1;
     }

@@ -6,7 +6,4 @@ use Rattle.network.specs.Write.{gates_bytes}
 use Rattle.netwrite.proofs.gates_size.Given as goal
 
 abbrev pub invariant-loop-g : goal.invariant-loop-g
-invariant-loop-g l = (l.g ≤ l.m) × (l.size ≤ most_gate_bytes * l.g) × (l.size + length (gates_bytes l.s (l.s.m - l.g) l.g) ≡ length (gates_bytes l.s l.s.m 0))
-
-abbrev pub decreases-loop-g : goal.decreases-loop-g
-decreases-loop-g l = l.m - l.g
+invariant-loop-g l = (l.size ≤ most_gate_bytes * l.g) × (l.size + length (gates_bytes l.s (l.s.m - l.g) l.g) ≡ length (gates_bytes l.s l.s.m 0))

@@ -1,10 +1,7 @@
-use Prim.Native.Nat.{◌-◌, ◌≤◌}
+use Prim.Native.Nat.{◌-◌}
 use Rattle.buffer.proofs.Laying.{Pending}
 use Rattle.network.specs.Write.{outputs_bytes}
 use Rattle.netwrite.proofs.put_outputs.Given as goal
 
 abbrev pub invariant-loop-i : goal.invariant-loop-i
-invariant-loop-i l = (l.i ≤ l.p) × Pending l.initial.buf l.at (outputs_bytes l.s l.s.p 0) l.buf l.a (outputs_bytes l.s (l.s.p - l.i) l.i)
-
-abbrev pub decreases-loop-i : goal.decreases-loop-i
-decreases-loop-i l = l.p - l.i
+invariant-loop-i l = Pending l.initial.buf l.at (outputs_bytes l.s l.s.p 0) l.buf l.a (outputs_bytes l.s (l.s.p - l.i) l.i)

@@ -1,20 +1,32 @@
--- `digits_of`: none of the gates passed has more than four fan-ins. Assumes nothing.
-use mathlib.Core.Path.{refl}
+-- `digits_of`: by whether some gate has more than four fan-ins. Assumes nothing.
+use mathlib.Core.Path.{◌≡◌, sym}
+use mathlib.Core.Bool.{cond}
+use lib.Dec.{ltb}
+use lib.ListN.{length, take}
 use native.Mathlib.Omega.{arith}
-use Rattle.tabletext.proofs.DigitLaws.{wide-next, digits-wide, digits-narrow}
+use borrow.Author.Rules.{rules}
+use Rattle.std.proofs.Common.{tests}
+use Rattle.std.proofs.lemmas.Iterator.{YieldsList-from_slice}
+use Rattle.std.proofs.lemmas.Iterator.Search.{any_from_yields_List}
+use Rattle.network.specs.Load.{narrow}
+use Rattle.network.specs.Bounds.{most_gates}
+use Rattle.network.specs.Flat.{loaded_net}
+use Rattle.text.specs.Numbers.{word_digits}
+use Rattle.tabletext.specs.Digits.{digits}
+use Rattle.tabletext.proofs.DigitLaws.{digits-by}
 use Rattle.tabletext.proofs.digits_of.Goals as goal
+use Rattle.tabletext.proofs.digits_of.Goals.{After-any}
 
-pub loop-g-init : goal.loop-g-init
-loop-g-init c = (omega arith, refl)
+digits-are : (c : After-any) → digits (loaded_net c.args.s) ≡ cond c.any.result word_digits 4
+digits-are c =
+    let x = c.args.s in
+    let m = c.place-m in
+    let w : length x.arity ≡ most_gates = search rules in
+    digits-by x c.any.result m.result m.ensures (omega arith)
+    (any_from_yields_List (ltb narrow.most) _ _ c.any.result c.any.ensures.ran (YieldsList-from_slice (take m.result x.arity) cc) (λ x b q k. search (rules, tests)))
 
-pub returns-then-arity-g-gt-NARROW_FANINS : goal.returns-then-arity-g-gt-NARROW_FANINS
-returns-then-arity-g-gt-NARROW_FANINS c =
-    digits-wide c.args.s c.loop-g.g (omega arith) (omega arith)
-
-pub loop-g-preserved : goal.loop-g-preserved
-loop-g-preserved c =
-    (omega arith, wide-next c.args.s.arity c.loop-g.g c.loop-g.invariant.1 (omega arith))
+pub returns-then-any : goal.returns-then-any
+returns-then-any c = sym (rw c.if-any.true at (digits-are (goal.at.returns-then-any c).After-any))
 
 pub returns : goal.returns
-returns c =
-    digits-narrow c.args.s c.loop-g.g (omega arith) c.loop-g.invariant.1
+returns c = sym (rw c.if-any.false at (digits-are (goal.at.returns c).After-any))
