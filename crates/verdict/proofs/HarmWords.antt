@@ -16,8 +16,8 @@ use Rattle.bits.proofs.BitLaws.{bit-and, bit-or, bit-xor, bit-zero}
 use Rattle.bits.proofs.Logic.{clash, and-not}
 use Rattle.bits.proofs.Cuts.{live_at}
 use Rattle.bits.proofs.Ranges.{and_assoc, any-i, length-places, places-at, column-at}
+use Rattle.network.specs.Answer.{Done}
 use Rattle.network.specs.declared.Session.{Session}
-use Rattle.network.specs.declared.Answer.TheVariants.{Done}
 use Rattle.network.specs.Bounds.{most_signals}
 use Rattle.network.specs.Net.{Net, values, output, excluded, excluded_for, pattern_order}
 use Rattle.network.specs.Flat.{net_of, net_with, loaded_net}

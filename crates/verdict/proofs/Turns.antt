@@ -8,12 +8,12 @@ use native.Mathlib.Omega.{arith}
 use lib.Dec.{ltb}
 use borrow.Author.Tests.{lt-ltb, le-ltb}
 use Rattle.std.specs.Prelude.{Option}
-use Rattle.std.specs.Prelude.{Some, None}
+use Rattle.std.specs.Prelude.{None}
 use Rattle.bits.specs.Range.{up_from, first_in, smallest}
 use Rattle.bits.specs.Cut.{Cut}
 use Rattle.bits.proofs.Search.{smallest-eq, smallest-ext, found, next, done}
-use Rattle.network.specs.declared.Answer.{Answer}
-use Rattle.network.specs.declared.Answer.TheVariants.{Done, Refused}
+use Rattle.std.specs.Prelude.{Ok, Err}
+use Rattle.network.specs.Answer.{Answer, Done}
 use Rattle.network.specs.declared.Refusal.{Refusal}
 use Rattle.network.specs.declared.Refusal.TheVariants.{Harm}
 use Rattle.network.specs.Tests.{or_else}
@@ -46,7 +46,7 @@ module _ (q : ℕ → Bool) (x : ℕ) (r : Answer) where
   abbrev on : Option ℕ → Answer
   on f = or_else (output_found x f) r
 
-  pub inner-found : (o b : ℕ) → o < b → q o ≡ true → Refused (Harm x o) ≡ or_else (output_found x (first_in q (up_from o (b - o)))) r
+  pub inner-found : (o b : ℕ) → o < b → q o ≡ true → Err (Harm x o) ≡ or_else (output_found x (first_in q (up_from o (b - o)))) r
   inner-found o b h t = ap on (found q o b h t)
 
   pub inner-next : (o b : ℕ) → o < b → q o ≡ false
@@ -83,8 +83,8 @@ search-parts h p a (suc c) d =
     rw (q, search-parts h p (a + 1) c d, s) (either (output_found a (smallest p (h a))) (first_harm h p (up_from (a + 1) c)) (first_harm h p (up_from (a + suc c) d)))
   where
     either : (u b r : Answer) → or_else u (or_else b r) ≡ or_else (or_else u b) r
-    either Done b r = refl
-    either (Refused f) b r = refl
+    either (Ok _) b r = refl
+    either (Err f) b r = refl
 
 -- ## The loop over words, at w of W
 
@@ -115,8 +115,8 @@ module _ (h : ℕ → ℕ → Bool) (p W w : ℕ) where
       ap (λ (x : ℕ). or_else (first_harm h p (up_from (w * 64) 64)) (first_harm h p (up_from x (W * 64 - (w + 1) * 64)))) (sym s)
       ∙ sym (search-parts h p (w * 64) 64 (W * 64 - (w + 1) * 64)) ∙ ap (λ (c : ℕ). first_harm h p (up_from (w * 64) c)) (sym q)
 
-  pub words-found : w < W → (a : Answer) {f : Refusal} → a ≡ word_harm h p w → a ≡ Refused f → a ≡ left h p W w
-  words-found l a e d = d ∙ ap (λ (b : Answer). or_else b (left h p W (w + 1))) (sym d ∙ e) ∙ words_step l
+  pub words-found : w < W → (a : Answer) {f : Refusal} → a ≡ word_harm h p w → a ≡ Err f → Err f ≡ left h p W w
+  words-found l a e d = ap (λ (b : Answer). or_else b (left h p W (w + 1))) (sym d ∙ e) ∙ words_step l
 
   pub words-next : w < W → (a : Answer) → a ≡ word_harm h p w → a ≡ Done → left h p W (w + 1) ≡ left h p W w
   words-next l a e d = ap (λ (b : Answer). or_else b (left h p W (w + 1))) (sym d ∙ e) ∙ words_step l

@@ -3,7 +3,7 @@ use Rattle.std.specs.Prelude.{Bool, List, ℕ, ◌-◌, ◌*◌, get_or}
 use Rattle.std.specs.Int.Bits.{bit_and, bit_xor}
 use Rattle.bits.specs.Range.{up_from}
 use Rattle.bits.specs.Bit.{bit}
-use Rattle.network.specs.declared.Answer.{Answer}
+use Rattle.network.specs.Answer.{Answer}
 use Rattle.network.specs.Calls.{first_harm}
 
 -- the places at which output i has another value in the words xs than in ys

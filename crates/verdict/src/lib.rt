@@ -5,7 +5,7 @@ ghost use Rattle.std.specs.Prelude.{◌≡◌, ℕ, ◌+◌, ◌*◌, ◌<◌, �
 ghost use Rattle.bits.specs.Bounds.{row_words};
 ghost use Rattle.bits.specs.Range.{any};
 ghost use Rattle.bits.specs.Bit.{bit};
-ghost use Rattle.network.specs.declared.Answer.TheVariants.{Done};
+ghost use Rattle.network.specs.Answer.{Done};
 ghost use Rattle.network.specs.Bounds.{most_outputs, most_signals};
 ghost use Rattle.network.specs.Flat.{net_of, net_with, loaded_net};
 ghost use Rattle.network.specs.Valid.{NetOk, OutputsOk};
@@ -16,7 +16,7 @@ ghost use Rattle.verdict.specs.Changed.{changed_word, changed_at, word_harm};
 
 use bits::ROW_WORDS;
 use network::{
-    Answer, EXCLUDED_WORDS, FANIN_PLACES, MOST_GATES, MOST_OUTPUTS, Refusal, SIGNAL_WORDS, Session,
+    EXCLUDED_WORDS, FANIN_PLACES, MOST_GATES, MOST_OUTPUTS, Refusal, SIGNAL_WORDS, Session,
 };
 
 // Where output i has another value in word w of the rows xs than in ys.
@@ -48,10 +48,8 @@ fn changes(
     ensures { (b : ℕ) → bit result b ≡ any p (λ i. bit (changed_word outs.now (words_at xs.now w) (words_at ys.now w) i) b) }
 {
     let mut acc: u64 = 0;
-    let mut i = 0;
-    while i < p {
-        acc = acc | changed(outs, xs, ys, w, i);
-        i += 1;
+    for i in 0..p {
+        acc |= changed(outs, xs, ys, w, i);
     }
     acc
 }
@@ -81,32 +79,26 @@ fn search(
     ys: &[u64; SIGNAL_WORDS],
     keep: u64,
     w: usize,
-) -> Answer
+) -> Result<(), Refusal>
     requires outputs_ok { OutputsOk outs.now p most_signals }
     requires w_lt_row_words { w < row_words }
     ensures { result ≡ word_harm (changed_at outs.now (words_at xs.now w) (words_at ys.now w) keep w) p w }
 {
     let base = w * 64;
     let end = base + 64;
-    let mut at_x = end;
-    let mut at_i = p;
+    let mut found = Ok(());
     'search: for x in base..end {
         for i in 0..p {
             if changed_at(outs, xs, ys, keep, w, x, i) {
-                at_x = x;
-                at_i = i;
+                found = Err(Refusal::Harm {
+                    pattern: x,
+                    output: i,
+                });
                 break 'search;
             }
         }
     }
-    if at_x < end {
-        Answer::Refused(Refusal::Harm {
-            pattern: at_x,
-            output: at_i,
-        })
-    } else {
-        Answer::Done
-    }
+    found
 }
 
 // The first harm in word w, where the whole word is asked first whether an output changes. A word without a pattern to judge is skipped.
@@ -117,17 +109,17 @@ fn compare(
     ys: &[u64; SIGNAL_WORDS],
     keep: u64,
     w: usize,
-) -> Answer
+) -> Result<(), Refusal>
     requires outputs_ok { OutputsOk outs.now p most_signals }
     requires w_lt_row_words { w < row_words }
     ensures { result ≡ word_harm (changed_at outs.now (words_at xs.now w) (words_at ys.now w) keep w) p w }
 {
     if keep == 0 {
-        return Answer::Done;
+        return Ok(());
     }
     let d = changes(p, outs, xs, ys, w);
     if keep & d == 0 {
-        return Answer::Done;
+        return Ok(());
     }
     search(p, outs, xs, ys, keep, w)
 }
@@ -143,7 +135,7 @@ fn network_harm(
     loaded: &[u64; MOST_GATES],
     tables: &[u64; MOST_GATES],
     outs: &[u8; MOST_OUTPUTS],
-) -> Answer
+) -> Result<(), Refusal>
     requires net_ok { NetOk arity.now fanins.now n m }
     requires outputs_ok { OutputsOk outs.now p (n + m) }
     ensures { result ≡ harm_test (net_of arity.now fanins.now loaded.now n m excluded.now outs.now p) (net_of arity.now fanins.now tables.now n m excluded.now outs.now p) }
@@ -155,20 +147,15 @@ fn network_harm(
     simulate::rows(n, m, arity, fanins, loaded, words, &mut xs);
     let mut ys = xs;
     incremental::update(n, m, arity, fanins, loaded, tables, words, &mut ys);
-    let mut w = 0;
-    while w < words {
+    for w in 0..words {
         let keep = live & bits::complement(excluded[w]);
-        let a = compare(p, outs, &xs, &ys, keep, w);
-        if let Answer::Refused(_) = a {
-            return a;
-        }
-        w += 1;
+        compare(p, outs, &xs, &ys, keep, w)?;
     }
-    Answer::Done
+    Ok(())
 }
 
 // The harm that the session's network does with these tables.
-pub fn harm(s: Session, tables: [u64; MOST_GATES]) -> Answer
+pub fn harm(s: Session, tables: [u64; MOST_GATES]) -> Result<(), Refusal>
     requires { state_fault s ≡ Done }
     ensures { result ≡ harm_test (loaded_net s) (net_with s tables) }
 {

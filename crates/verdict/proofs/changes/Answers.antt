@@ -2,7 +2,6 @@
 use mathlib.Core.Path.{◌≡◌, ap, ◌∙◌}
 use Prim.Native.Nat.{ℕ}
 use native.Mathlib.Omega.{arith}
-use borrow.Author.Rules.{rules}
 use Rattle.bits.specs.Range.{any}
 use Rattle.bits.specs.Bit.{bit}
 use Rattle.bits.proofs.BitLaws.{bit-zero}
@@ -12,20 +11,17 @@ use Rattle.verdict.proofs.HarmWords.{changes-step}
 use Rattle.verdict.proofs.changes.Goals as goal
 
 pub loop-i-init : goal.loop-i-init
-loop-i-init c = (search rules, λ b. bit-zero b)
-
-pub changed-acc-requires : goal.changed-acc-requires
-changed-acc-requires c = (c.requires.w_lt_row_words, omega (arith, c.requires.outputs_ok.most), c.requires.outputs_ok.each _ c.loop-i-test.true)
+loop-i-init c b = bit-zero b
 
 pub loop-i-preserved : goal.loop-i-preserved
 loop-i-preserved c =
     let a = c.args in
     let l = c.loop-i in
-    (search rules, changes-step (changed_word a.outs.now (words_at a.xs.now a.w) (words_at a.ys.now a.w)) l.acc c.changed-acc.result l.i l.invariant.1 c.changed-acc.ensures)
+    changes-step (changed_word a.outs.now (words_at a.xs.now a.w) (words_at a.ys.now a.w)) l.acc c.changed-acc.result l.i l.invariant c.changed-acc.ensures
 
 pub returns : goal.returns
 returns c =
     let a = c.args in
     let l = c.loop-i in
     let e : l.i ≡ a.p = omega arith in
-    λ b. l.invariant.1 b ∙ ap (λ (k : ℕ). any k (λ i. bit (changed_word a.outs.now (words_at a.xs.now a.w) (words_at a.ys.now a.w) i) b)) e
+    λ b. l.invariant b ∙ ap (λ (k : ℕ). any k (λ i. bit (changed_word a.outs.now (words_at a.xs.now a.w) (words_at a.ys.now a.w) i) b)) e

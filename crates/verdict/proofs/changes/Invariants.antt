@@ -1,5 +1,5 @@
 use mathlib.Core.Path.{◌≡◌}
-use Prim.Native.Nat.{ℕ, ◌-◌, ◌≤◌}
+use Prim.Native.Nat.{ℕ}
 use Rattle.bits.specs.Range.{any}
 use Rattle.bits.specs.Bit.{bit}
 use Rattle.simulate.specs.Simulated.{words_at}
@@ -7,7 +7,4 @@ use Rattle.verdict.specs.Changed.{changed_word}
 use Rattle.verdict.proofs.changes.Given as goal
 
 abbrev pub invariant-loop-i : goal.invariant-loop-i
-invariant-loop-i l = (l.i ≤ l.p) × ((b : ℕ) → bit l.acc b ≡ any l.i (λ i. bit (changed_word l.outs (words_at l.xs l.w) (words_at l.ys l.w) i) b))
-
-abbrev pub decreases-loop-i : goal.decreases-loop-i
-decreases-loop-i l = l.p - l.i
+invariant-loop-i l = (b : ℕ) → bit l.acc b ≡ any l.i (λ i. bit (changed_word l.outs (words_at l.xs l.w) (words_at l.ys l.w) i) b)

@@ -1,5 +1,4 @@
 use mathlib.Core.Path.{◌≡◌}
-use Prim.Native.Nat.{◌-◌, ◌≤◌}
 use Rattle.network.specs.Flat.{net_of}
 use Rattle.network.specs.Calls.{harm_test}
 use Rattle.verdict.proofs.Turns.{left}
@@ -10,7 +9,4 @@ abbrev pub invariant-loop-w : goal.invariant-loop-w
 invariant-loop-w l =
     let L = net_of l.arity l.fanins l.loaded l.n l.m l.excluded l.outs l.p in
     let M = net_of l.arity l.fanins l.tables l.n l.m l.excluded l.outs l.p in
-    (l.w ≤ l.words) × (left (tests l.arity l.fanins l.loaded l.tables l.n l.m l.excluded l.outs l.p) l.p l.words l.w ≡ harm_test L M)
-
-abbrev pub decreases-loop-w : goal.decreases-loop-w
-decreases-loop-w l = l.words - l.w
+    left (tests l.arity l.fanins l.loaded l.tables l.n l.m l.excluded l.outs l.p) l.p l.words l.w ≡ harm_test L M
