@@ -14,8 +14,8 @@ use mir.Val.{bool_byte}
 use Rattle.bits.specs.Bounds.{most_inputs, gate_places}
 use Rattle.bits.specs.Range.{num, places, count}
 use Rattle.bits.proofs.Ranges.{by_cases, lt-cases, length-places, places-at, places-ext}
+use Rattle.network.specs.Answer.{Done}
 use Rattle.network.specs.declared.Session.{Session}
-use Rattle.network.specs.declared.Answer.TheVariants.{Done}
 use Rattle.network.specs.Bounds.{most_gates, most_outputs, most_fanins, most_signals, excluded_words}
 use Rattle.network.specs.Net.{Gate, Net}
 use Rattle.network.specs.Flat.{gate_at, gates_of, net_of, current_net}

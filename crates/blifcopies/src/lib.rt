@@ -4,7 +4,7 @@
 ghost use Rattle.std.specs.Prelude.{◌≡◌, ◌+◌, ◌*◌, ◌<◌, ◌≤◌, length};
 ghost use Rattle.bits.specs.Bounds.{most_inputs};
 ghost use Rattle.bits.specs.Range.{count};
-ghost use Rattle.network.specs.declared.Answer.TheVariants.{Done};
+ghost use Rattle.network.specs.Answer.{Done};
 ghost use Rattle.network.specs.Bounds.{most_gates, most_outputs};
 ghost use Rattle.network.specs.Flat.{current_net};
 ghost use Rattle.network.specs.State.{state_fault};
@@ -14,7 +14,7 @@ ghost use Rattle.blifcopies.specs.Copies.{copy_due, freed, with_copy};
 ghost use Rattle.blifcopies.specs.Ready.{Ready};
 
 use bits::GATE_PLACES;
-use network::{Answer, EXCLUDED_WORDS, MOST_GATES, MOST_OUTPUTS, Session};
+use network::{EXCLUDED_WORDS, MOST_GATES, MOST_OUTPUTS, Refusal, Session};
 
 // Whether output i is driven by an input or repeats an earlier one.
 fn copy_due(n: u8, outs: [u8; MOST_OUTPUTS], i: usize) -> bool
@@ -41,7 +41,7 @@ fn copies(n: u8, outs: [u8; MOST_OUTPUTS], p: usize) -> u8
 }
 
 // Refusal 3, of the gates with the copies.
-pub fn copies_test(s: Session) -> Answer
+pub fn copies_test(s: Session) -> Result<(), Refusal>
     requires { state_fault s ≡ Done }
     ensures { result ≡ copies_test s }
 {
