@@ -13,10 +13,10 @@ use lib.Seq.{drop-cons}
 use Rattle.bits.specs.Bit.{bit}
 use Rattle.bits.proofs.BitLaws.{bit-or, bit-power}
 use Rattle.bits.proofs.Ranges.{or_comm}
+use Rattle.std.specs.Prelude.{Err}
+use Rattle.network.specs.Answer.{Answer, Done}
 use Rattle.network.specs.declared.Refusal.{Refusal}
 use Rattle.network.specs.declared.Refusal.TheVariants.{NotAGate}
-use Rattle.network.specs.declared.Answer.{Answer}
-use Rattle.network.specs.declared.Answer.TheVariants.{Done, Refused}
 use Rattle.network.specs.Net.{Replacement}
 use Rattle.network.specs.Flat.{stored_all}
 use Rattle.network.specs.Tests.{refuse_if, or_else, is_done, member}
@@ -79,8 +79,8 @@ module _ (n m : ℕ) (ks gs ts : List ℕ) where
         subst From (sym e ∙ d)
         (sym (ap (pairs_by n m ks named) (pairs-at gs ts i h l)) ∙ left.0, ap (λ (rs : List Replacement). i + refused_by n m ks named rs) (sym (pairs-at gs ts i h l)) ∙ left.1)
 
-    pub pair-stops : {f : Refusal} → a ≡ Refused f → Told a i
-    pair-stops {f} d = (d ∙ (whole (Refused f) d).0, omega (arith, (whole (Refused f) d).1))
+    pub pair-stops : {f : Refusal} → a ≡ Err f → Told (Err f) i
+    pair-stops {f} d = ((whole (Err f) d).0, omega (arith, (whole (Err f) d).1))
 
     pub pair-next : a ≡ Done → Left (get_or gs i 0 ∷ named) (i + 1)
     pair-next d = ((whole Done d).0, omega (arith, (whole Done d).1))

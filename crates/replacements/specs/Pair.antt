@@ -1,9 +1,8 @@
 -- The tests of pairs by numbers, as loops over two lists meet them. Assumes nothing.
 use Rattle.std.specs.Prelude.{Bool, not, cond, ◌&&◌, List, [], ◌∷◌, ℕ, suc, ◌+◌, ◌-◌, ◌^◌, ◌<◌, ◌≤◌, leb, ltb, length, get_or}
 use Rattle.bits.specs.Bounds.{most_inputs}
+use Rattle.network.specs.Answer.{Answer, Done}
 use Rattle.network.specs.declared.Refusal.TheVariants.{NotAGate, TableTooWide, GateRepeated}
-use Rattle.network.specs.declared.Answer.{Answer}
-use Rattle.network.specs.declared.Answer.TheVariants.{Done}
 use Rattle.network.specs.Bounds.{most_gates, most_fanins}
 use Rattle.network.specs.Net.{Replacement}
 use Rattle.network.specs.Tests.{refuse_if, or_else, first, is_done, member}

@@ -2,15 +2,16 @@
 // The loops take counts and arrays: a session handed on for each pair would be 1.4 kB copied each time.
 #![tactic(auto)]
 
-ghost use Rattle.std.specs.Prelude.{◌≡◌, ◌&&◌, [], ◌+◌, ◌≤◌, leb, ltb, length};
+ghost use Rattle.std.specs.Prelude.{◌≡◌, ◌&&◌, [], ◌+◌, ◌≤◌, leb, ltb, length, MatchResult, Err};
 ghost use Rattle.bits.specs.Bounds.{most_inputs};
 ghost use Rattle.bits.specs.Bit.{bit};
+ghost use Rattle.network.specs.Answer.{Done};
 ghost use Rattle.network.specs.Bounds.{most_gates};
 ghost use Rattle.network.specs.Flat.{stored_all};
 ghost use Rattle.network.specs.Calls.{pairs};
 ghost use Rattle.replacements.specs.Pair.{Bounded, GatesIn, pair_by, pairs_by, refused_by};
 
-use network::{Answer, MOST_GATES, Refusal};
+use network::{MOST_GATES, Refusal};
 
 // The signal is one of the m gates that stand behind n inputs.
 pub fn is_gate(n: usize, m: usize, gate: usize) -> bool
@@ -31,61 +32,51 @@ pub fn pair_test(
     seen: u64,
     gate: usize,
     table: u64,
-) -> Answer
+) -> Result<(), Refusal>
     requires { Bounded n m arity.now }
     ensures { result ≡ pair_by n m arity.now (bit seen gate) gate table }
 {
     if !is_gate(n, m, gate) {
-        return Answer::Refused(Refusal::NotAGate);
+        return Err(Refusal::NotAGate);
     }
     if bits::bit_of(seen, gate as u64) {
-        return Answer::Refused(Refusal::GateRepeated);
+        return Err(Refusal::GateRepeated);
     }
     let k = arity[gate - n];
-    let w = state::table_test(k, table);
-    if let Answer::Refused(_) = w {
-        return Answer::Refused(Refusal::TableTooWide);
-    }
-    Answer::Done
+    state::table_test(k, table).map_err(|_| Refusal::TableTooWide)
 }
 
-// The pairs in order: what the first that is refused is answered, or Done, and how many stand before it.
-#[derive(Drop)]
-pub struct Tested {
-    pub answer: Answer,
-    pub passed: usize,
+// Why a pair is refused, and how many pairs stand before it.
+#[derive(Clone, Copy)]
+pub struct PairRefused {
+    pub refusal: Refusal,
+    pub pair: usize,
 }
 
-// The pairs of two lists of one length.
+// The pairs of two lists of one length, in order: the first that is refused.
 pub fn pairs_test(
     n: usize,
     m: usize,
     arity: &[u8; MOST_GATES],
     gates: &[u64],
     tables: &[u64],
-) -> Tested
+) -> Result<(), PairRefused>
     requires bounded { Bounded n m arity.now }
     requires gates_len { length gates.now ≡ length tables.now }
-    ensures { (result.answer ≡ pairs_by n m arity.now [] (pairs gates.now tables.now)) × (result.passed ≡ refused_by n m arity.now [] (pairs gates.now tables.now)) }
+    ensures { let rs = pairs gates.now tables.now in
+        MatchResult result
+        (λ _. (Done ≡ pairs_by n m arity.now [] rs) × (length gates.now ≡ refused_by n m arity.now [] rs))
+        (λ e. (Err e.refusal ≡ pairs_by n m arity.now [] rs) × (e.pair ≡ refused_by n m arity.now [] rs)) }
 {
     let mut seen: u64 = 0;
-    let mut i: usize = 0;
-    while i < gates.len() {
-        let gate = gates[i] as usize;
-        let a = pair_test(n, m, arity, seen, gate, tables[i]);
-        if let Answer::Refused(_) = a {
-            return Tested {
-                answer: a,
-                passed: i,
-            };
+    for (i, g) in gates.iter().enumerate() {
+        let gate = *g as usize;
+        if let Err(refusal) = pair_test(n, m, arity, seen, gate, tables[i]) {
+            return Err(PairRefused { refusal, pair: i });
         }
-        seen = seen | bits::power(gate as u64);
-        i += 1;
+        seen |= bits::power(gate as u64);
     }
-    Tested {
-        answer: Answer::Done,
-        passed: i,
-    }
+    Ok(())
 }
 
 // The tables of the gates behind n inputs, with those of the pairs stored.
@@ -100,11 +91,9 @@ pub fn replace_tables(
     ensures { (result ≡ stored_all n (pairs gates.now tables.now) current) × (length result ≡ most_gates) }
 {
     let mut all = current;
-    let mut i: usize = 0;
-    while i < gates.len() {
-        let gate = gates[i] as usize;
+    for (i, g) in gates.iter().enumerate() {
+        let gate = *g as usize;
         all[gate - n] = tables[i];
-        i += 1;
     }
     all
 }

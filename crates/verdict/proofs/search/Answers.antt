@@ -3,10 +3,9 @@
 use mathlib.Core.Path.{refl, sym, ◌∙◌}
 use Prim.Native.Nat.{◌+◌, ◌*◌}
 use native.Mathlib.Nat.{sub-zero}
-use native.Mathlib.Omega.{arith}
 use Rattle.simulate.specs.Simulated.{words_at}
 use Rattle.verdict.specs.Changed.{changed_at}
-use Rattle.verdict.proofs.Turns.{outer_start, outer-step, outer-done, inner-found, inner-next, inner-done}
+use Rattle.verdict.proofs.Turns.{outer_start, outer-step, inner-next}
 use Rattle.verdict.proofs.search.Goals as goal
 
 pub search-init : goal.search-init
@@ -23,14 +22,3 @@ loop-i-preserved c = (
   c.loop-i.invariant.0,
   inner-next _ _ _ _ _ c.loop-i-test.true (sym c.changed_at.ensures ∙ c.if-changed_at.false) ∙ c.loop-i.invariant.1,
 )
-
-pub search-preserved : goal.search-preserved
-search-preserved c = (c.loop-i.invariant.0, inner-done _ _ _ c.loop-i.i c.args.p (omega arith) ∙ c.loop-i.invariant.1)
-
-pub returns-then-changed_at : goal.returns-then-changed_at
-returns-then-changed_at c =
-    inner-found _ _ _ _ _ c.loop-i-test.true (sym c.changed_at.ensures ∙ c.if-changed_at.true) ∙ c.loop-i.invariant.1
-
-pub returns-after-search : goal.returns-after-search
-returns-after-search c =
-    c.search.invariant.0 ∙ outer-done _ c.args.p c.search.x (c.args.w * 64 + 64) (omega arith) ∙ c.search.invariant.1
