@@ -21,18 +21,32 @@ ghost use Rattle.dontcares.specs.Tabled.{Comes, Tabled, GateTabled, GatesTabled,
 use bits::ROW_WORDS;
 use network::{EXCLUDED_WORDS, FANIN_PLACES, GATE_WORDS, MOST_GATES, SIGNAL_WORDS, Sdc, Session};
 
+// The places of one word that another does not have.
+fn without(word: u64, other: u64) -> u64
+    ensures { (b : ℕ) → b < 64 → bit result b ≡ (bit word b && not (bit other b)) }
+{
+    word & bits::complement(other)
+}
+
+// A row of so many words, each by its place.
+fn row_by<F: Fn(usize) -> u64>(count: usize, word: F) -> [u64; ROW_WORDS]
+    requires few { count ≤ row_words }
+    requires callable { (w : ℕ) → w < count → F.pre word w }
+    ensures { (w : ℕ) → w < count → F.post word w (get_or result w 0) }
+{
+    let mut l = [0u64; ROW_WORDS];
+    for w in 0..count {
+        l[w] = word(w);
+    }
+    l
+}
+
 // The patterns that come: the live places of each word that do not lie in E.
 fn come_row(excluded: &[u64; EXCLUDED_WORDS], live: u64, count: usize) -> [u64; ROW_WORDS]
     requires { count ≤ row_words }
     ensures { Comes excluded.now result count live }
 {
-    let mut l = [0u64; ROW_WORDS];
-    let mut w = 0;
-    while w < count {
-        l[w] = live & bits::complement(excluded[w]);
-        w += 1;
-    }
-    l
+    row_by(count, |w| without(live, excluded[w]))
 }
 
 // Those of them that do not lie in gate g's ODC.
@@ -45,13 +59,7 @@ fn keep_row(
     requires { (g < most_gates) × (count ≤ row_words) }
     ensures { (w b : ℕ) → w < count → b < 64 → bit (get_or result w 0) b ≡ (bit (get_or come.now w 0) b && not (bit (get_or odc.now (row_words * g + w) 0) b)) }
 {
-    let mut l = [0u64; ROW_WORDS];
-    let mut w = 0;
-    while w < count {
-        l[w] = come[w] & bits::complement(odc[ROW_WORDS * g + w]);
-        w += 1;
-    }
-    l
+    row_by(count, |w| without(come[w], odc[ROW_WORDS * g + w]))
 }
 
 // The entries of gate g that the places of keep deliver. Once all are, the words left add none.
@@ -70,14 +78,12 @@ fn delivered(
     let k = network::place(arity[g]);
     let all = bits::mask(entries::entry_count(k));
     let mut acc: u64 = 0;
-    let mut w = 0;
-    while w < count {
+    for w in 0..count {
         if acc == all {
             return acc;
         }
         let ins = simulate::gather_at(arity, fanins, rows, g, w);
         acc = entries::meets(k, &ins, keep[w], acc);
-        w += 1;
     }
     acc
 }
@@ -141,12 +147,10 @@ fn tables_of(
     let come = come_row(excluded, live, count);
     let mut cdc = [0u64; MOST_GATES];
     let mut full = [0u64; MOST_GATES];
-    let mut g = a;
-    while g < e {
+    for g in a..e {
         let t = tables_at(arity, fanins, rows, &come, odc, count, g);
         cdc[g] = t.cdc;
         full[g] = t.full;
-        g += 1;
     }
     AllTables {
         cdc: cdc,

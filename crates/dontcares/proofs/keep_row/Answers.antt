@@ -1,28 +1,7 @@
 -- `dontcares::keep_row` meets its contract. Assumes nothing.
-use mathlib.Core.Path.{refl, ap, ◌∙◌}
-use mathlib.Core.Bool.{Bool, not, ◌&&◌}
-use Prim.Native.Nat.{◌+◌, ◌*◌}
-use native.Mathlib.Omega.{arith}
-use lib.Bits.{bit_and}
-use lib.ListN.{get_or, length-set}
-use Rattle.bits.specs.Bounds.{row_words}
-use Rattle.bits.specs.Bit.{bit}
-use Rattle.bits.proofs.BitLaws.{bit-and}
-use Rattle.simulate.proofs.RowLaws.{filled-bits}
+use borrow.Author.Rules.{rules}
 use Rattle.dontcares.proofs.keep_row.Goals as goal
 
-pub loop-w-init : goal.loop-w-init
-loop-w-init c = (omega arith, refl, λ q i h k. absurd (omega arith))
-
-pub loop-w-preserved : goal.loop-w-preserved
-loop-w-preserved c =
-    let a = c.args in
-    let i₀ = get_or a.come.now c.loop-w.w 0 in (
-      omega arith,
-      simp length-set c.loop-w.invariant.1,
-      filled-bits c.loop-w.l (λ q i. bit (get_or a.come.now q 0) i && not (bit (get_or a.odc.now (row_words * a.g + q) 0) i)) c.loop-w.w (bit_and i₀ c.complement.result) (omega arith) c.loop-w.invariant.2
-          (λ i h. bit-and i₀ c.complement.result i ∙ ap (λ (x : Bool). bit i₀ i && x) (c.complement.ensures i h)),
-    )
-
+-- word w is what the closure gives there
 pub returns : goal.returns
-returns c w i h k = c.loop-w.invariant.2 w i (omega arith) k
+returns c w b hw hb = let word = c.row_by.ensures w hw in search rules
