@@ -21,20 +21,6 @@ use Rattle.blifline.specs.Rows.{marked, Running}
 
 -- ## A byte of a row
 
-pub marked-one : (r t : ℕ) → marked 0x31 r t ≡ bit t r
-marked-one r t = go (bit t r)
-  where
-    go : (v : Bool) → (eqb 0x31 0x2D || eqb 0x31 (0x30 + num v)) ≡ v
-    go true = refl
-    go false = refl
-
-pub marked-zero : (r t : ℕ) → marked 0x30 r t ≡ not (bit t r)
-marked-zero r t = go (bit t r)
-  where
-    go : (v : Bool) → (eqb 0x30 0x2D || eqb 0x30 (0x30 + num v)) ≡ not v
-    go true = refl
-    go false = refl
-
 pub marked-none : (b r t : ℕ) → (b ≡ 0x2D → ⊥) → (b ≡ 0x31 → ⊥) → (b ≡ 0x30 → ⊥) → marked b r t ≡ false
 marked-none b r t n o z = go (bit t r)
   where

@@ -1,5 +1,5 @@
 -- Names held as places in the text. Assumes nothing.
-use mathlib.Core.Path.{◌≡◌, refl, sym, ap, ◌∙◌}
+use mathlib.Core.Path.{◌≡◌, sym, ap, ◌∙◌}
 use mathlib.Core.List.{List, [], ◌∷◌, ◌++◌}
 use Prim.Native.Nat.{ℕ, suc, ◌+◌, ◌-◌, ◌≤◌, ◌<◌}
 use native.Mathlib.Numerals.{add-one}
@@ -19,12 +19,6 @@ use Rattle.blifline.proofs.Lists.{word-i}
 -- ## One name more
 
 module _ (text : Text) (S E : List ℕ) (a e : ℕ) (same : length S ≡ length E) where
-  abbrev starts_more : List ℕ
-  starts_more = S ++ a ∷ []
-
-  abbrev ends_more : List ℕ
-  ends_more = E ++ e ∷ []
-
   long : length (S ++ a ∷ []) ≡ suc (length S)
   long = length-append S (a ∷ []) ∙ add-one (length S)
 
@@ -80,13 +74,6 @@ module _ (text : Text) (starts ends : List ℕ) (c : ℕ) (ws : List Text) (h : 
     names-are = rw (starts-are, ends-are) (names-snoc text (take c starts) (take c ends) a e equal ∙ ap (λ (v : List Text). v ++ take (e - a) (drop a text) ∷ []) h.names-are);
     inside = rw (starts-are, ends-are) (inside_snoc text (take c starts) (take c ends) a e equal h.inside l m);
   }
-
-pub held_none : (text : Text) (starts ends : List ℕ) → Held text starts ends 0 []
-held_none text starts ends = record {
-  many = refl;
-  names-are = refl;
-  inside = record { ordered = λ i l. (let z : ⊥ = omega arith in absurd z); within = λ i l. (let z : ⊥ = omega arith in absurd z) };
-}
 
 -- the words of a line, one after the other
 pub held_word : (s : Text) (starts ends : List ℕ) (at i : ℕ) (ws : List Text) (x : Span) → Held s starts ends i (take i ws) → WordAt s at (drop i ws) x

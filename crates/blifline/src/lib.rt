@@ -105,12 +105,10 @@ pub fn names_at(s: &[u8], at: usize, n: usize) -> Names
     let mut starts = [0usize; MOST_SIGNALS];
     let mut ends = [0usize; MOST_SIGNALS];
     let mut x = bliftext::word_from(s, at);
-    let mut i: usize = 0;
-    while i < n {
+    for i in 0..n {
         starts[i] = x.start;
         ends[i] = x.end;
         x = bliftext::word_from(s, x.end);
-        i += 1;
     }
     Names {
         starts: starts,
@@ -145,15 +143,11 @@ fn all_known(text: &[u8], starts: &[usize], ends: &[usize], s: &[u8], at: usize,
     ensures { result ≡ all (known (names_at text.now starts.now ends.now)) (take k (fields (drop at s.now))) }
 {
     let mut x = bliftext::word_from(s, at);
-    let mut i: usize = 0;
-    while i < k {
-        let a = x.start;
-        let e = x.end;
-        if bliftext::place_of(text, starts, ends, &s[a..e]) >= starts.len() {
+    for _i in 0..k {
+        if bliftext::place_of(text, starts, ends, &s[x.start..x.end]) >= starts.len() {
             return false;
         }
-        x = bliftext::word_from(s, e);
-        i += 1;
+        x = bliftext::word_from(s, x.end);
     }
     true
 }
@@ -222,13 +216,9 @@ pub fn fanins(
 {
     let mut u = f;
     let mut x = bliftext::word_from(s, at);
-    let mut i: usize = 0;
-    while i < k {
-        let a = x.start;
-        let e = x.end;
-        u[b + i] = bliftext::place_of(text, starts, ends, &s[a..e]) as u8;
-        x = bliftext::word_from(s, e);
-        i += 1;
+    for i in 0..k {
+        u[b + i] = bliftext::place_of(text, starts, ends, &s[x.start..x.end]) as u8;
+        x = bliftext::word_from(s, x.end);
     }
     u
 }
@@ -261,12 +251,10 @@ fn outputs_known(
     requires { Named text.now starts.now ends.now × Named text.now outs.now stops.now }
     ensures { result ≡ all (known (names_at text.now starts.now ends.now)) (names_at text.now outs.now stops.now) }
 {
-    let mut i: usize = 0;
-    while i < outs.len() {
+    for i in 0..outs.len() {
         if output_place(text, starts, ends, outs, stops, i) >= starts.len() {
             return false;
         }
-        i += 1;
     }
     true
 }
@@ -307,10 +295,8 @@ pub fn put_outputs(
     ensures { result ≡ sets f 0 (map (place_in (names_at text.now starts.now ends.now)) (names_at text.now outs.now stops.now)) }
 {
     let mut u = f;
-    let mut i: usize = 0;
-    while i < outs.len() {
+    for i in 0..outs.len() {
         u[i] = output_place(text, starts, ends, outs, stops, i) as u8;
-        i += 1;
     }
     u
 }

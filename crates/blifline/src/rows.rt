@@ -30,10 +30,8 @@ fn row_word(row: &[u8]) -> u64
     ensures { (t : ℕ) → t < 64 → bit result t ≡ covers row.now t }
 {
     let mut w: u64 = 0xffff_ffff_ffff_ffff;
-    let mut r: usize = 0;
-    while r < row.len() {
-        w = w & mark_word(row[r], r);
-        r += 1;
+    for (r, b) in row.iter().enumerate() {
+        w &= mark_word(*b, r);
     }
     w
 }
@@ -68,12 +66,10 @@ fn marks(row: &[u8], k: u8) -> bool
     if row.len() != k as usize {
         return false;
     }
-    let mut i: usize = 0;
-    while i < row.len() {
-        if !mark(row[i]) {
+    for b in row {
+        if !mark(*b) {
             return false;
         }
-        i += 1;
     }
     true
 }

@@ -1,10 +1,10 @@
 -- The lines of a text in turn, as the code meets them. Assumes nothing.
-use mathlib.Core.Path.{◌≡◌, refl, sym, ap, ◌∙◌}
+use mathlib.Core.Path.{◌≡◌, refl, sym, ◌∙◌}
 use mathlib.Core.List.{List, [], ◌∷◌, map}
 use Prim.Native.Nat.{ℕ, ◌+◌, ◌*◌, ◌-◌, ◌≤◌}
 use native.Mathlib.Nat.{sub-zero}
 use native.Mathlib.Omega.{arith}
-use lib.ListN.{length, take, drop, set, drop_of_length-le}
+use lib.ListN.{length, take, drop, set}
 use lib.Seq.{sets, length-take-le}
 use Rattle.bits.specs.Bounds.{gate_places}
 use Rattle.network.specs.declared.Answer.{Answer}
@@ -15,26 +15,15 @@ use Rattle.network.specs.Bounds.{most_signals}
 use Rattle.network.specs.Tests.{first}
 use Rattle.network.specs.Load.{load_refused, load_done}
 use Rattle.network.specs.declared.Refusal.TheVariants.{OutsideSubset}
-use Rattle.text.specs.Words.{Text, words}
-use Rattle.blif.specs.Text.{fields, statement, statements}
+use Rattle.text.specs.Words.{Text}
+use Rattle.blif.specs.Text.{fields}
 use Rattle.blif.specs.Read.{place_in, read_rest}
 use Rattle.bliftext.specs.Named.{names_at}
 use Rattle.bliftext.specs.declared.Line.{Line}
-use Rattle.bliftext.specs.declared.Next.{Next}
-use Rattle.bliftext.specs.declared.Next.TheVariants.{Words, Stop}
-use Rattle.bliftext.specs.Class.{words_at, LineOf, NextOf}
+use Rattle.bliftext.specs.Class.{words_at, LineOf}
 use Rattle.blifline.specs.declared.Names.{Names}
 use Rattle.blifline.specs.Lines.{Named, end_tests_of}
 use Rattle.blifread.specs.Drafts.{LineIn, with_fanins, signals_at, Fits, end_of}
-
--- ## The next line
-
-module _ (text : Text) (at : ℕ) (r : Next) (h : NextOf text at r) where
-  pub next-words : (l : Line) → r ≡ Words l → LineOf text at l
-  next-words l e = rw e at h
-
-  pub next-stop : r ≡ Stop → statements (drop at text) ≡ []
-  next-stop e = rw e at h
 
 -- ## Parts that are lent from their start
 
@@ -113,10 +102,6 @@ rest_some t line rest ss e = rw e
 
 pub rest-none : (t : Session) (ss : List (List Text)) → ss ≡ [] → load_done t ≡ read_rest t ss
 rest-none t ss e = rw e
-
-pub none_left : (text : Text) (i : ℕ) → length text ≤ i → statements (drop i text) ≡ []
-unfolding statements statement words
-none_left text i h = ap statements (drop_of_length-le text {i = i} h)
 
 -- ## A gate put in place
 

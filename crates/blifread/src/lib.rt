@@ -16,7 +16,7 @@ ghost use Rattle.blifread.specs.Drafts.{LineIn, draft_of, RowsRead, with_fanins,
 
 use bits::{GATE_PLACES, MOST_INPUTS};
 use blifline::Names;
-use bliftext::{Line, Next, Span};
+use bliftext::{Line, Span};
 use network::{Answer, Loaded, MOST_OUTPUTS, MOST_SIGNALS, Refusal, Session};
 
 // Whether the line's first word is w.
@@ -43,16 +43,8 @@ fn rows(text: &[u8], at: usize, k: u8) -> Scanned
     let mut digit: u8 = 0;
     let mut table: u64 = 0;
     let mut i = at;
-    while i < text.len() {
-        let next = bliftext::line_from(text, i);
-        let Next::Words(l) = next else {
-            return Scanned {
-                table: table,
-                next: i,
-            };
-        };
-        let h = l.end;
-        let x = blifline::row(&text[0..h], l.at, k, digit, table);
+    while let Some(l) = bliftext::line_from(text, i) {
+        let x = blifline::row(&text[0..l.end], l.at, k, digit, table);
         if x.digit == 0 {
             return Scanned {
                 table: table,
@@ -171,13 +163,12 @@ fn rest(text: &[u8], at: usize, t: Session) -> Loaded
     requires { at ≤ length text.now }
     ensures { result ≡ read_rest t (statements (drop at text.now)) }
 {
-    let next = bliftext::line_from(text, at);
-    if let Next::Words(_) = next {
-        return network::refused(Refusal::OutsideSubset);
-    }
-    Loaded {
-        answer: Answer::Done,
-        session: t,
+    match bliftext::line_from(text, at) {
+        Some(_) => network::refused(Refusal::OutsideSubset),
+        None => Loaded {
+            answer: Answer::Done,
+            session: t,
+        },
     }
 }
 
@@ -235,11 +226,7 @@ fn blocks(text: &[u8], at: usize, t: Session, ins: Names, outs: &[usize], stops:
     let mut u = t;
     let mut ns = ins;
     let mut i = at;
-    while i < text.len() {
-        let next = bliftext::line_from(text, i);
-        let Next::Words(l) = next else {
-            return network::refused(Refusal::OutsideSubset);
-        };
+    while let Some(l) = bliftext::line_from(text, i) {
         if opens(text, l, b".end") {
             return end(text, l, u, ns, outs, stops);
         }
@@ -288,8 +275,7 @@ fn names_line(text: &[u8], at: usize, word: &[u8], most: usize) -> Listed
     requires { (at ≤ length text.now) × (most ≤ most_signals) }
     ensures { ListedAt text.now at word.now most result }
 {
-    let next = bliftext::line_from(text, at);
-    let Next::Words(l) = next else {
+    let Some(l) = bliftext::line_from(text, at) else {
         return unlisted(Refusal::OutsideSubset);
     };
     let h = l.end;
@@ -345,8 +331,7 @@ fn inputs(text: &[u8], at: usize) -> Loaded
 pub fn read(text: &[u8]) -> Loaded
     ensures { result ≡ read_blif text.now }
 {
-    let next = bliftext::line_from(text, 0);
-    let Next::Words(l) = next else {
+    let Some(l) = bliftext::line_from(text, 0) else {
         return network::refused(Refusal::OutsideSubset);
     };
     let w = l.at;

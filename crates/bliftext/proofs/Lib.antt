@@ -1,4 +1,3 @@
-pub mod Bytewise
 pub mod Lines
 pub mod Names
 pub mod Spans

@@ -11,7 +11,7 @@ use borrow.Author.Tests.{ltb-true, ltb-false, lt-ltb, le-ltb}
 use Rattle.bits.proofs.Ranges.{by_cases}
 use Rattle.text.specs.Words.{Text, is_printing, part_with, parts, before, keep, non_empty, words, all}
 use Rattle.blif.specs.Text.{is_blank, fields}
-use Rattle.blif.specs.Read.{same, place_in, known, repeats, foreign}
+use Rattle.blif.specs.Read.{foreign}
 use Rattle.text.proofs.Parts.{parts_first}
 use Rattle.text.proofs.Places.{begin, word}
 use Rattle.bliftext.specs.declared.Class.TheVariants.{Filled, Blank, Foreign}
@@ -67,30 +67,6 @@ module _ (s : Text) (w : Span) where
 
       none : ltb w.start w.end ≡ false → get_or (words_from s w) 0 [] ≡ span_of s w
       none t = let l = ltb-false w.start w.end t in let z : w.end - w.start ≡ 0 = omega arith in rw (t, z)
-
--- ## A name among names
-
-pub known-cons : (v : Text) (vs : List Text) (w : Text) → known (v ∷ vs) w ≡ (same v w || known vs w)
-known-cons v vs w = go (same v w) refl
-  where
-    go : (c : Bool) → same v w ≡ c → known (v ∷ vs) w ≡ (c || known vs w)
-    go true e = rw e (lt-ltb 0 (suc (length vs)) (omega arith))
-    go false e = rw e (leb-suc-suc (suc (place_in vs w)) (length vs))
-
-module _ (s : Text) (x : Span) (l : x.start < x.end) where
-  pub known-here : (w : Text) → same (span_of s x) w ≡ true → true ≡ known (words_from s x) w
-  known-here w e = sym (ap (λ (ws : List Text). known ws w) (some_left s x l) ∙ known-cons (span_of s x) (fields (drop x.end s)) w ∙ rw e)
-
-  pub known_on : (w : Text) (y : Span) (at : ℕ) → same (span_of s x) w ≡ false → WordAt s at (fields (drop x.end s)) y → known (words_from s y) w ≡ known (words_from s x) w
-  known_on w y at e h =
-      ap (λ (ws : List Text). known ws w) (sym h.reads)
-      ∙ sym (ap (λ (ws : List Text). known ws w) (some_left s x l) ∙ known-cons (span_of s x) (fields (drop x.end s)) w ∙ rw e)
-
-  pub repeats-here : known (fields (drop x.end s)) (span_of s x) ≡ true → true ≡ repeats (words_from s x)
-  repeats-here e = rw (some_left s x l, e)
-
-  pub repeats-on : (y : Span) (at : ℕ) → known (fields (drop x.end s)) (span_of s x) ≡ false → WordAt s at (fields (drop x.end s)) y → repeats (words_from s y) ≡ repeats (words_from s x)
-  repeats-on y at e h = ap repeats (sym h.reads) ∙ sym (ap repeats (some_left s x l) ∙ rw e)
 
 -- ## Text that stand in no word
 

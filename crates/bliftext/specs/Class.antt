@@ -1,12 +1,10 @@
 -- Classes of bytes, and words by places. Assumes nothing.
-use Rattle.std.specs.Prelude.{◌≡◌, Bool, not, ◌||◌, List, [], ◌∷◌, ℕ, ◌≤◌, ◌<◌, length, take, drop}
+use Rattle.std.specs.Prelude.{◌≡◌, Bool, not, ◌||◌, List, [], ◌∷◌, ℕ, ◌≤◌, ◌<◌, length, take, drop, Option, Some, None}
 use Rattle.text.specs.Words.{Text, is_printing}
 use Rattle.blif.specs.Text.{is_newline, is_hash, is_blank, fields, statements}
 use Rattle.bliftext.specs.declared.Class.{Class}
 use Rattle.bliftext.specs.declared.Class.TheVariants.{Newline, Hash, Blank, Filled, Foreign}
 use Rattle.bliftext.specs.declared.Line.{Line}
-use Rattle.bliftext.specs.declared.Next.{Next}
-use Rattle.bliftext.specs.declared.Next.TheVariants.{Words, Stop}
 
 abbrev pub in_class : Class → ℕ → Bool
 in_class Newline b = is_newline b
@@ -35,6 +33,6 @@ pub record LineOf (text : Text) (at : ℕ) (l : Line) : Type 0 where
   pub within : l.end ≤ l.next
   pub inside : l.next ≤ length text
 
-abbrev pub NextOf : Text → ℕ → Next → Type 0
-NextOf text at (Words l) = LineOf text at l
-NextOf text at Stop = statements (drop at text) ≡ []
+abbrev pub NextOf : Text → ℕ → Option Line → Type 0
+NextOf text at (Some l) = LineOf text at l
+NextOf text at None = statements (drop at text) ≡ []

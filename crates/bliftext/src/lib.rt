@@ -59,31 +59,12 @@ pub fn find(s: &[u8], at: usize, c: Class) -> usize
     requires { at ≤ length s.now }
     ensures { (result ≡ at + length (before (in_class c) (drop at s.now))) × (result ≤ length s.now) }
 {
-    let mut p = at;
-    while p < s.len() {
+    for p in at..s.len() {
         if is(c, s[p]) {
             return p;
         }
-        p += 1;
     }
-    p
-}
-
-// Whether two words are the same.
-pub fn same(a: &[u8], b: &[u8]) -> bool
-    ensures { result ≡ read.same a.now b.now }
-{
-    if a.len() != b.len() {
-        return false;
-    }
-    let mut i: usize = 0;
-    while i < a.len() {
-        if a[i] != b[i] {
-            return false;
-        }
-        i += 1;
-    }
-    true
+    s.len()
 }
 
 // A line that has words: its first word starts at `at`, its last word ends before `end`, the next line starts at `next`.
@@ -92,12 +73,6 @@ pub struct Line {
     pub at: usize,
     pub end: usize,
     pub next: usize,
-}
-
-#[derive(Drop)]
-pub enum Next {
-    Words(Line),
-    Stop,
 }
 
 // The line that starts at `i`; it has words where `at` is below `end`.
@@ -122,8 +97,8 @@ pub fn line_at(text: &[u8], i: usize) -> Line
     }
 }
 
-// The first line from `at` on that has words.
-pub fn line_from(text: &[u8], at: usize) -> Next
+// The first line from `at` on that has words; none where no such line is left.
+pub fn line_from(text: &[u8], at: usize) -> Option<Line>
     requires { at ≤ length text.now }
     ensures { NextOf text.now at result }
 {
@@ -131,11 +106,11 @@ pub fn line_from(text: &[u8], at: usize) -> Next
     while i < text.len() {
         let l = line_at(text, i);
         if l.at < l.end {
-            return Next::Words(l);
+            return Some(l);
         }
         i = l.next;
     }
-    Next::Stop
+    None
 }
 
 // The place of a name among the names that stand at these places of the text; their number where it is none of them.
@@ -143,16 +118,12 @@ pub fn place_of(text: &[u8], starts: &[usize], ends: &[usize], w: &[u8]) -> usiz
     requires { Inside text.now starts.now ends.now × (length starts.now ≡ length ends.now) }
     ensures { result ≡ place_in (names_at text.now starts.now ends.now) w.now }
 {
-    let mut i: usize = 0;
-    while i < starts.len() {
-        let a = starts[i];
-        let e = ends[i];
-        if same(&text[a..e], w) {
+    for i in 0..starts.len() {
+        if &text[starts[i]..ends[i]] == w {
             return i;
         }
-        i += 1;
     }
-    i
+    starts.len()
 }
 
 // A word of a text by its places, or no word where `start` is `end`.
@@ -192,9 +163,7 @@ pub fn opens(s: &[u8], at: usize, w: &[u8]) -> bool
     ensures { result ≡ read.opens w.now (fields (drop at s.now)) }
 {
     let x = word_from(s, at);
-    let a = x.start;
-    let e = x.end;
-    same(&s[a..e], w)
+    &s[x.start..x.end] == w
 }
 
 // Whether w is one of the words from `at` on.
@@ -204,12 +173,10 @@ pub fn stands(s: &[u8], at: usize, w: &[u8]) -> bool
 {
     let mut x = word_from(s, at);
     while x.start < x.end {
-        let a = x.start;
-        let e = x.end;
-        if same(&s[a..e], w) {
+        if &s[x.start..x.end] == w {
             return true;
         }
-        x = word_from(s, e);
+        x = word_from(s, x.end);
     }
     false
 }
@@ -221,12 +188,10 @@ pub fn repeated(s: &[u8], at: usize) -> bool
 {
     let mut x = word_from(s, at);
     while x.start < x.end {
-        let a = x.start;
-        let e = x.end;
-        if stands(s, e, &s[a..e]) {
+        if stands(s, x.end, &s[x.start..x.end]) {
             return true;
         }
-        x = word_from(s, e);
+        x = word_from(s, x.end);
     }
     false
 }
@@ -245,10 +210,8 @@ pub fn word_at(s: &[u8], at: usize, k: usize) -> Span
     ensures { WordAt s.now at (drop k (fields (drop at s.now))) result }
 {
     let mut x = word_from(s, at);
-    let mut i: usize = 0;
-    while i < k {
+    for _i in 0..k {
         x = word_from(s, x.end);
-        i += 1;
     }
     x
 }

@@ -2,7 +2,6 @@
 use mathlib.Core.Path.{◌≡◌, sym, ◌∙◌}
 use mathlib.Core.Bool.{true, false}
 use native.Mathlib.Omega.{arith}
-use native.Mathlib.Nat.{sub-zero}
 use lib.ListN.{length, drop}
 use borrow.Author.Tests.{lt-ltb, le-ltb}
 use Rattle.blif.specs.Text.{fields}
@@ -10,20 +9,8 @@ use Rattle.blif.specs.Read.{known}
 use Rattle.bliftext.specs.Named.{names_at}
 use Rattle.bliftext.specs.Spans.{span_of}
 use Rattle.bliftext.proofs.Spans.{word_next}
-use Rattle.blifline.proofs.Lists.{place-known, all-not, all-on, all_done}
+use Rattle.blifline.proofs.Lists.{place-known, all-not, all-on}
 use Rattle.blifline.proofs.all_known.Goals as goal
-
-pub loop-i-init : goal.loop-i-init
-loop-i-init c = (omega arith, c.word_from-x.ensures, rw sub-zero)
-
-pub slice_bounds-place_of-count : goal.slice_bounds-place_of-count
-slice_bounds-place_of-count c = c.loop-i.invariant.1.upto
-
-pub slice_bounds-place_of-start : goal.slice_bounds-place_of-start
-slice_bounds-place_of-start c = let h = c.loop-i.invariant.1 in omega (arith, h.upto, h.inside)
-
-pub slice_bounds-place_of-end : goal.slice_bounds-place_of-end
-slice_bounds-place_of-end c = let h = c.loop-i.invariant.1 in omega (arith, h.upto, h.inside)
 
 pub returns-then-place_of-starts : goal.returns-then-place_of-starts
 returns-then-place_of-starts c =
@@ -34,10 +21,7 @@ returns-then-place_of-starts c =
     let v = span_of a.s.now h.x in
     let p = c.place_of in
     let no : known ns v ≡ false = sym (place-known a.text.now a.starts.now a.ends.now v p.result p.ensures) ∙ le-ltb p.result (length a.starts.now) c.if-place_of-starts.true in
-    all-not (known ns) a.s.now a.at h.i a.k ws h.x c.loop-i-test.true (omega arith) h.invariant.1 no ∙ h.invariant.2
-
-pub word_from-x-requires-in-loop-i : goal.word_from-x-requires-in-loop-i
-word_from-x-requires-in-loop-i c = c.loop-i.invariant.1.inside
+    all-not (known ns) a.s.now a.at h._i a.k ws h.x c.loop-i-test.true (omega arith) h.invariant.0 no ∙ h.invariant.1
 
 pub loop-i-preserved : goal.loop-i-preserved
 loop-i-preserved c =
@@ -48,12 +32,4 @@ loop-i-preserved c =
     let v = span_of a.s.now h.x in
     let p = c.place_of in
     let yes : known ns v ≡ true = sym (place-known a.text.now a.starts.now a.ends.now v p.result p.ensures) ∙ lt-ltb p.result (length a.starts.now) c.if-place_of-starts.false in
-    (omega arith, word_next a.s.now a.at h.i ws h.x c.word_from-x-in-loop-i.result h.invariant.1 c.word_from-x-in-loop-i.ensures, all-on (known ns) a.s.now a.at h.i a.k ws h.x c.loop-i-test.true (omega arith) h.invariant.1 yes ∙ h.invariant.2)
-
-pub returns : goal.returns
-returns c =
-    let a = c.args in
-    let ns = names_at a.text.now a.starts.now a.ends.now in
-    let ws = fields (drop a.at a.s.now) in
-    let h = c.loop-i in
-    all_done (known ns) h.i a.k ws c.loop-i-test.false ∙ h.invariant.2
+    (word_next a.s.now a.at h._i ws h.x c.word_from-x-in-loop-i.result h.invariant.0 c.word_from-x-in-loop-i.ensures, all-on (known ns) a.s.now a.at h._i a.k ws h.x c.loop-i-test.true (omega arith) h.invariant.0 yes ∙ h.invariant.1)

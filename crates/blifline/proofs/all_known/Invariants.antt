@@ -1,5 +1,5 @@
 use mathlib.Core.Path.{◌≡◌}
-use Prim.Native.Nat.{◌-◌, ◌≤◌}
+use Prim.Native.Nat.{◌-◌}
 use lib.ListN.{take, drop}
 use Rattle.text.specs.Words.{all}
 use Rattle.blif.specs.Text.{fields}
@@ -9,7 +9,4 @@ use Rattle.bliftext.specs.Spans.{WordAt}
 use Rattle.blifline.proofs.all_known.Given as goal
 
 abbrev pub invariant-loop-i : goal.invariant-loop-i
-invariant-loop-i l = (l.i ≤ l.k) × WordAt l.s l.at (drop l.i (fields (drop l.at l.s))) l.x × (all (known (names_at l.text l.starts l.ends)) (take (l.k - l.i) (drop l.i (fields (drop l.at l.s)))) ≡ all (known (names_at l.text l.starts l.ends)) (take l.k (fields (drop l.at l.s))))
-
-abbrev pub decreases-loop-i : goal.decreases-loop-i
-decreases-loop-i l = l.k - l.i
+invariant-loop-i l = WordAt l.s l.at (drop l._i (fields (drop l.at l.s))) l.x × (all (known (names_at l.text l.starts l.ends)) (take (l.k - l._i) (drop l._i (fields (drop l.at l.s)))) ≡ all (known (names_at l.text l.starts l.ends)) (take l.k (fields (drop l.at l.s))))

@@ -1,6 +1,6 @@
 use mathlib.Core.Path.{◌≡◌}
 use mathlib.Core.List.{map}
-use Prim.Native.Nat.{◌+◌, ◌-◌, ◌≤◌}
+use Prim.Native.Nat.{◌+◌, ◌-◌}
 use lib.ListN.{take, drop}
 use lib.Seq.{sets}
 use Rattle.blif.specs.Text.{fields}
@@ -10,7 +10,4 @@ use Rattle.bliftext.specs.Spans.{WordAt}
 use Rattle.blifline.proofs.fanins.Given as goal
 
 abbrev pub invariant-loop-i : goal.invariant-loop-i
-invariant-loop-i l = (l.i ≤ l.k) × WordAt l.s l.at (drop l.i (fields (drop l.at l.s))) l.x × (sets l.u (l.b + l.i) (map (place_in (names_at l.text l.starts l.ends)) (take (l.k - l.i) (drop l.i (fields (drop l.at l.s))))) ≡ sets l.initial.u l.b (map (place_in (names_at l.text l.starts l.ends)) (take l.k (fields (drop l.at l.s)))))
-
-abbrev pub decreases-loop-i : goal.decreases-loop-i
-decreases-loop-i l = l.k - l.i
+invariant-loop-i l = WordAt l.s l.at (drop l.i (fields (drop l.at l.s))) l.x × (sets l.u (l.b + l.i) (map (place_in (names_at l.text l.starts l.ends)) (take (l.k - l.i) (drop l.i (fields (drop l.at l.s))))) ≡ sets l.initial.u l.b (map (place_in (names_at l.text l.starts l.ends)) (take l.k (fields (drop l.at l.s)))))

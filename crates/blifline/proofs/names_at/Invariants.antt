@@ -1,5 +1,4 @@
 use mathlib.Core.Path.{◌≡◌}
-use Prim.Native.Nat.{◌-◌, ◌≤◌}
 use lib.ListN.{length, take, drop}
 use Rattle.network.specs.Bounds.{most_signals}
 use Rattle.blif.specs.Text.{fields}
@@ -8,7 +7,4 @@ use Rattle.blifline.specs.Lines.{Held}
 use Rattle.blifline.proofs.names_at.Given as goal
 
 abbrev pub invariant-loop-i : goal.invariant-loop-i
-invariant-loop-i l = (l.i ≤ l.n) × (length l.starts ≡ most_signals) × (length l.ends ≡ most_signals) × WordAt l.s l.at (drop l.i (fields (drop l.at l.s))) l.x × Held l.s l.starts l.ends l.i (take l.i (fields (drop l.at l.s)))
-
-abbrev pub decreases-loop-i : goal.decreases-loop-i
-decreases-loop-i l = l.n - l.i
+invariant-loop-i l = (length l.starts ≡ most_signals) × (length l.ends ≡ most_signals) × WordAt l.s l.at (drop l.i (fields (drop l.at l.s))) l.x × Held l.s l.starts l.ends l.i (take l.i (fields (drop l.at l.s)))

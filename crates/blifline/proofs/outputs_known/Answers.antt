@@ -1,15 +1,11 @@
 -- `blifline::outputs_known` meets its contract. Assumes nothing.
-use mathlib.Core.Path.{refl, sym, ◌∙◌}
-use native.Mathlib.Omega.{arith}
+use mathlib.Core.Path.{sym, ◌∙◌}
 use lib.ListN.{length}
 use borrow.Author.Tests.{lt-ltb, le-ltb}
 use Rattle.blif.specs.Read.{known}
 use Rattle.bliftext.specs.Named.{name_at, names_at}
 use Rattle.blifline.proofs.Lists.{place-known, names-not, names-on, names-done}
 use Rattle.blifline.proofs.outputs_known.Goals as goal
-
-pub loop-i-init : goal.loop-i-init
-loop-i-init c = (omega arith, refl)
 
 pub returns-then-output_place-starts : goal.returns-then-output_place-starts
 returns-then-output_place-starts c =
@@ -19,7 +15,7 @@ returns-then-output_place-starts c =
     let h = c.loop-i in
     let p = c.output_place in
     let k = place-known text a.starts.now a.ends.now (name_at text a.outs.now a.stops.now h.i) p.result p.ensures in
-    names-not text a.outs.now a.stops.now h.i c.loop-i-test.true (known ns) (sym k ∙ le-ltb p.result (length a.starts.now) c.if-output_place-starts.true) ∙ h.invariant.1
+    names-not text a.outs.now a.stops.now h.i c.loop-i-test.true (known ns) (sym k ∙ le-ltb p.result (length a.starts.now) c.if-output_place-starts.true) ∙ h.invariant
 
 pub loop-i-preserved : goal.loop-i-preserved
 loop-i-preserved c =
@@ -29,11 +25,11 @@ loop-i-preserved c =
     let h = c.loop-i in
     let p = c.output_place in
     let k = place-known text a.starts.now a.ends.now (name_at text a.outs.now a.stops.now h.i) p.result p.ensures in
-    (omega arith, names-on text a.outs.now a.stops.now h.i c.loop-i-test.true (known ns) (sym k ∙ lt-ltb p.result (length a.starts.now) c.if-output_place-starts.false) ∙ h.invariant.1)
+    names-on text a.outs.now a.stops.now h.i c.loop-i-test.true (known ns) (sym k ∙ lt-ltb p.result (length a.starts.now) c.if-output_place-starts.false) ∙ h.invariant
 
 pub returns : goal.returns
 returns c =
     let a = c.args in
     let text = a.text.now in
     let h = c.loop-i in
-    names-done text a.outs.now a.stops.now h.i (known (names_at text a.starts.now a.ends.now)) c.loop-i-test.false ∙ h.invariant.1
+    names-done text a.outs.now a.stops.now h.i (known (names_at text a.starts.now a.ends.now)) c.loop-i-test.false ∙ h.invariant

@@ -5,16 +5,8 @@ use Rattle.blif.specs.Text.{fields}
 use Rattle.blif.specs.Read.{known}
 use Rattle.bliftext.specs.Named.{names_at}
 use Rattle.bliftext.specs.Spans.{span_of}
-use Rattle.blifline.proofs.Lists.{place-known, last_none, last-known}
+use Rattle.blifline.proofs.Lists.{place-known, last-known}
 use Rattle.blifline.proofs.own_known.Goals as goal
-
-pub returns-then-a-e : goal.returns-then-a-e
-returns-then-a-e c =
-    let a = c.args in
-    let ns = names_at a.text.now a.starts.now a.ends.now in
-    let ws = fields (drop a.at a.s.now) in
-    let x = c.word_at-x in
-    last_none (known ns) a.s.now a.at a.k ws x.result c.requires.2 x.ensures c.if-a-e.true
 
 pub returns : goal.returns
 returns c =

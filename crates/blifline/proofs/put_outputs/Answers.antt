@@ -1,13 +1,10 @@
 -- `blifline::put_outputs` meets its contract. Assumes nothing.
-use mathlib.Core.Path.{refl, ◌∙◌}
+use mathlib.Core.Path.{◌∙◌}
 use native.Mathlib.Omega.{arith}
 use Rattle.blif.specs.Read.{place_in}
 use Rattle.bliftext.specs.Named.{name_at, names_at}
 use Rattle.blifline.proofs.Lists.{place-few, names-put, names-stored}
 use Rattle.blifline.proofs.put_outputs.Goals as goal
-
-pub loop-i-init : goal.loop-i-init
-loop-i-init c = (omega arith, refl)
 
 pub overflow_cast-u : goal.overflow_cast-u
 overflow_cast-u c =
@@ -22,11 +19,11 @@ loop-i-preserved c =
     let text = a.text.now in
     let h = c.loop-i in
     let p = c.output_place in
-    (omega arith, names-put text a.outs.now a.stops.now h.i c.loop-i-test.true (place_in (names_at text a.starts.now a.ends.now)) h.u p.result p.ensures ∙ h.invariant.1)
+    names-put text a.outs.now a.stops.now h.i c.loop-i-test.true (place_in (names_at text a.starts.now a.ends.now)) h.u p.result p.ensures ∙ h.invariant
 
 pub returns : goal.returns
 returns c =
     let a = c.args in
     let text = a.text.now in
     let h = c.loop-i in
-    names-stored text a.outs.now a.stops.now h.i (place_in (names_at text a.starts.now a.ends.now)) h.u c.loop-i-test.false ∙ h.invariant.1
+    names-stored text a.outs.now a.stops.now h.i (place_in (names_at text a.starts.now a.ends.now)) h.u c.loop-i-test.false ∙ h.invariant

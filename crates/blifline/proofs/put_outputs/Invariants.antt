@@ -1,7 +1,6 @@
 use mathlib.Core.Path.{◌≡◌}
 use mathlib.Core.List.{map}
-use Prim.Native.Nat.{◌-◌, ◌≤◌}
-use lib.ListN.{length, drop}
+use lib.ListN.{drop}
 use lib.Seq.{sets}
 use Rattle.blif.specs.Read.{place_in}
 use Rattle.bliftext.specs.Named.{names_at}
@@ -9,8 +8,4 @@ use Rattle.blifline.proofs.put_outputs.Given as goal
 
 abbrev pub invariant-loop-i : goal.invariant-loop-i
 invariant-loop-i l =
-    (l.i ≤ length l.outs)
-    × (sets l.u l.i (map (place_in (names_at l.text l.starts l.ends)) (drop l.i (names_at l.text l.outs l.stops))) ≡ sets l.initial.u 0 (map (place_in (names_at l.text l.starts l.ends)) (names_at l.text l.outs l.stops)))
-
-abbrev pub decreases-loop-i : goal.decreases-loop-i
-decreases-loop-i l = length l.outs - l.i
+    (sets l.u l.i (map (place_in (names_at l.text l.starts l.ends)) (drop l.i (names_at l.text l.outs l.stops))) ≡ sets l.initial.u 0 (map (place_in (names_at l.text l.starts l.ends)) (names_at l.text l.outs l.stops)))

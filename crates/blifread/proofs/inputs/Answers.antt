@@ -9,9 +9,6 @@ returns-in-Refused c =
     let x = c.names_line-x in
     c.refused.ensures ∙ inputs-refused a.text.now a.at x.result x.ensures _ c.in-Refused.is
 
-pub outputs-requires : goal.outputs-requires
-outputs-requires c = let g = c.names_line-x.ensures.given c.in_default.is in (g.place, g.few, g.held.inside)
-
 pub returns : goal.returns
 returns c =
     let a = c.args in

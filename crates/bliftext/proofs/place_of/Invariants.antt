@@ -1,12 +1,9 @@
 use mathlib.Core.Path.{◌≡◌}
-use Prim.Native.Nat.{◌+◌, ◌-◌, ◌≤◌}
-use lib.ListN.{length, drop}
+use Prim.Native.Nat.{◌+◌}
+use lib.ListN.{drop}
 use Rattle.blif.specs.Read.{place_in}
 use Rattle.bliftext.specs.Named.{names_at}
 use Rattle.bliftext.proofs.place_of.Given as goal
 
 abbrev pub invariant-loop-i : goal.invariant-loop-i
-invariant-loop-i l = (l.i ≤ length l.starts) × (l.i + place_in (drop l.i (names_at l.text l.starts l.ends)) l.w ≡ place_in (names_at l.text l.starts l.ends) l.w)
-
-abbrev pub decreases-loop-i : goal.decreases-loop-i
-decreases-loop-i l = length l.starts - l.i
+invariant-loop-i l = l.i + place_in (drop l.i (names_at l.text l.starts l.ends)) l.w ≡ place_in (names_at l.text l.starts l.ends) l.w

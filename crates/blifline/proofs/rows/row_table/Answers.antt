@@ -8,9 +8,6 @@ use Rattle.bits.proofs.Ranges.{entries-most}
 use Rattle.blifline.proofs.Covers.{zero-first, zero-next, one-next}
 use Rattle.blifline.proofs.rows.row_table.Goals as goal
 
-pub overflow_cast-power : goal.overflow_cast-power
-overflow_cast-power c = let e = entries-most c.args.k (search rules) in omega arith
-
 pub mask-live-requires : goal.mask-live-requires
 mask-live-requires c = let e = entries-most c.args.k (search rules) in omega arith
 

@@ -1,9 +1,0 @@
--- `blifline::digit` meets its contract. Assumes nothing.
-use borrow.Author.Tests.{eq-eqb, ne_eqb}
-use Rattle.blifline.proofs.rows.digit.Goals as goal
-
-pub returns-then-b-eq48 : goal.returns-then-b-eq48
-returns-then-b-eq48 c = rw (eq-eqb _ _ c.if-b-eq48.true)
-
-pub returns-else-b-eq48 : goal.returns-else-b-eq48
-returns-else-b-eq48 c = rw (ne_eqb _ _ c.if-b-eq48.false)
