@@ -4,6 +4,7 @@
 ghost use Rattle.std.specs.Prelude.{◌≡◌, ℕ, ◌+◌, ◌*◌, ◌<◌, ◌≤◌, length, get_or};
 ghost use Rattle.std.specs.Int.Bits.{bit_and};
 ghost use Rattle.bits.specs.Bounds.{most_inputs, row_words};
+ghost use Rattle.network.specs.Answer.{Done};
 ghost use Rattle.network.specs.Bounds.{most_gates, signal_words, gate_words};
 ghost use Rattle.network.specs.Compatible.{compatible_count, per_gate};
 ghost use Rattle.network.specs.Flat.{loaded_net};
