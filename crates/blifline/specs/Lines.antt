@@ -1,6 +1,6 @@
 -- The tests of a line, and its names as places. Assumes nothing.
 use Rattle.std.specs.Prelude.{◌≡◌, not, List, [], ◌∷◌, ℕ, ◌+◌, ◌-◌, ◌≤◌, eqb, length, take}
-use Rattle.network.specs.declared.Answer.{Answer}
+use Rattle.network.specs.Answer.{Answer}
 use Rattle.network.specs.declared.Refusal.TheVariants.{OutsideSubset, BadName}
 use Rattle.network.specs.Bounds.{most_gates, most_fanins}
 use Rattle.network.specs.Tests.{refuse_if, count_test}

@@ -14,7 +14,7 @@ ghost use Rattle.blifline.specs.Rows.{RowRead};
 ghost use Rattle.blifline.specs.Lines.{Named, Held, OwnAt, block_tests_of, end_tests_of};
 
 use bliftext::Span;
-use network::{Answer, FANIN_PLACES, MOST_FANINS, MOST_GATES, MOST_OUTPUTS, MOST_SIGNALS, Refusal};
+use network::{FANIN_PLACES, MOST_FANINS, MOST_GATES, MOST_OUTPUTS, MOST_SIGNALS, Refusal};
 
 mod rows;
 
@@ -42,50 +42,50 @@ pub fn row(s: &[u8], at: usize, k: u8, digit: u8, old: u64) -> Cover
 }
 
 // Refusal 3: a count outside 1 .. most. As state's, but a line may have more names than a byte counts.
-fn count_test(most: usize, x: usize) -> Answer
+fn count_test(most: usize, x: usize) -> Result<(), Refusal>
     ensures { result ≡ count_test most x }
 {
     if x < 1 {
-        return Answer::Refused(Refusal::OutOfBounds);
+        return Err(Refusal::OutOfBounds);
     }
     if x > most {
-        return Answer::Refused(Refusal::OutOfBounds);
+        return Err(Refusal::OutOfBounds);
     }
-    Answer::Done
+    Ok(())
 }
 
 // The tests of the `.model` line.
-pub fn model_test(s: &[u8], at: usize) -> Answer
+pub fn model_test(s: &[u8], at: usize) -> Result<(), Refusal>
     requires { at ≤ length s.now }
     ensures { result ≡ model_test (fields (drop at s.now)) }
 {
     if bliftext::foreign(s, at) {
-        return Answer::Refused(Refusal::OutsideSubset);
+        return Err(Refusal::OutsideSubset);
     }
     if !bliftext::opens(s, at, b".model") {
-        return Answer::Refused(Refusal::OutsideSubset);
+        return Err(Refusal::OutsideSubset);
     }
     if bliftext::count(s, at) != 2 {
-        return Answer::Refused(Refusal::OutsideSubset);
+        return Err(Refusal::OutsideSubset);
     }
-    Answer::Done
+    Ok(())
 }
 
 // The tests of a line that opens with the word and lists names.
-pub fn names_test(s: &[u8], at: usize, word: &[u8], most: usize) -> Answer
+pub fn names_test(s: &[u8], at: usize, word: &[u8], most: usize) -> Result<(), Refusal>
     requires { at ≤ length s.now }
     ensures { result ≡ first (names_tests word.now most (fields (drop at s.now))) }
 {
     if bliftext::foreign(s, at) {
-        return Answer::Refused(Refusal::OutsideSubset);
+        return Err(Refusal::OutsideSubset);
     }
     if !bliftext::opens(s, at, word) {
-        return Answer::Refused(Refusal::OutsideSubset);
+        return Err(Refusal::OutsideSubset);
     }
     let w = bliftext::word_from(s, at);
     let e = w.end;
     if bliftext::repeated(s, e) {
-        return Answer::Refused(Refusal::BadName);
+        return Err(Refusal::BadName);
     }
     count_test(most, bliftext::count(s, e))
 }
@@ -174,29 +174,26 @@ pub fn block_test(
     s: &[u8],
     at: usize,
     m: usize,
-) -> Answer
+) -> Result<(), Refusal>
     requires { Named text.now starts.now ends.now × (at ≤ length s.now) × (m ≤ most_gates) }
     ensures { result ≡ first (block_tests_of (names_at text.now starts.now ends.now) m (fields (drop at s.now))) }
 {
     if bliftext::foreign(s, at) {
-        return Answer::Refused(Refusal::OutsideSubset);
+        return Err(Refusal::OutsideSubset);
     }
     let w = bliftext::word_from(s, at);
     let e = w.end;
     let k = less_one(bliftext::count(s, e));
     if !all_known(text, starts, ends, s, e, k) {
-        return Answer::Refused(Refusal::BadName);
+        return Err(Refusal::BadName);
     }
     if own_known(text, starts, ends, s, e, k) {
-        return Answer::Refused(Refusal::BadName);
+        return Err(Refusal::BadName);
     }
     if bliftext::repeated(s, e) {
-        return Answer::Refused(Refusal::BadName);
+        return Err(Refusal::BadName);
     }
-    let a = count_test(MOST_FANINS, k);
-    if let Answer::Refused(_) = a {
-        return a;
-    }
+    count_test(MOST_FANINS, k)?;
     count_test(MOST_GATES, m + 1)
 }
 
@@ -269,15 +266,15 @@ pub fn end_test(
     s: &[u8],
     at: usize,
     m: usize,
-) -> Answer
+) -> Result<(), Refusal>
     requires { Named text.now starts.now ends.now × Named text.now outs.now stops.now × (at ≤ length s.now) }
     ensures { result ≡ first (end_tests_of (names_at text.now starts.now ends.now) (names_at text.now outs.now stops.now) m (fields (drop at s.now))) }
 {
     if bliftext::count(s, at) != 1 {
-        return Answer::Refused(Refusal::OutsideSubset);
+        return Err(Refusal::OutsideSubset);
     }
     if !outputs_known(text, starts, ends, outs, stops) {
-        return Answer::Refused(Refusal::BadName);
+        return Err(Refusal::BadName);
     }
     count_test(MOST_GATES, m)
 }

@@ -9,16 +9,15 @@ use lib.ListN.{length, get_or, take, drop, set, length-map, length-set}
 use lib.Seq.{set-set, length-take-le, get_or-set_same}
 use borrow.Author.Tests.{le-leb, lt-leb}
 use Rattle.bits.specs.Bounds.{gate_places}
-use Rattle.network.specs.declared.Answer.{Answer}
-use Rattle.network.specs.declared.Answer.TheVariants.{Done, Refused}
+use Rattle.std.specs.Prelude.{Result, Ok, Err}
+use Rattle.network.specs.Answer.{Answer, Done, answer_of, giving}
+use Rattle.network.specs.Load.{session_of}
 use Rattle.network.specs.declared.Refusal.{Refusal}
 use Rattle.network.specs.declared.Refusal.TheVariants.{OutsideSubset}
-use Rattle.network.specs.declared.Loaded.{Loaded}
 use Rattle.network.specs.declared.Session.{Session}
 use Rattle.network.specs.Bounds.{most_gates, most_fanins, most_signals}
 use Rattle.network.specs.Tests.{first}
-use Rattle.network.specs.Load.{load_done, load_refused, onward}
-use Rattle.network.proofs.TestLaws.{refused-done, clear-e, count-e}
+use Rattle.network.proofs.TestLaws.{refused-done, given-same, clear-e, count-e}
 use Rattle.text.specs.Ascii.{ascii}
 use Rattle.text.specs.Words.{Text}
 use Rattle.blif.specs.Text.{fields, statements}
@@ -40,7 +39,7 @@ use Rattle.blifread.proofs.Steps.{part-line}
 -- ## One line of the definition, of which the last block has no row
 
 module _ (signals outputs : List Text) (t : Session) (rows : List Text) (digit : ℕ) (line : List Text) (rest : List (List Text)) where
-  abbrev due : Loaded
+  abbrev due : Result Session Refusal
   due = read_blocks (draft_of signals outputs t rows digit) (line ∷ rest)
 
   at-end : opens (ascii ".end") line ≡ true → end_of signals outputs t line rest ≡ due
@@ -48,12 +47,12 @@ module _ (signals outputs : List Text) (t : Session) (rows : List Text) (digit :
   at-end e = rw e
 
   module _ (no_end : opens (ascii ".end") line ≡ false) where
-    at_other : opens (ascii ".names") line ≡ false → is_row (draft_of signals outputs t rows digit) line ≡ false → load_refused OutsideSubset ≡ due
+    at_other : opens (ascii ".names") line ≡ false → is_row (draft_of signals outputs t rows digit) line ≡ false → Err OutsideSubset ≡ due
     unfolding read_blocks
     at_other e f = rw (no_end, e, f)
 
     module _ (named : opens (ascii ".names") line ≡ true) where
-      at-refused : (r : Refusal) → first (block_tests_of signals t.m line) ≡ Refused r → load_refused r ≡ due
+      at-refused : (r : Refusal) → first (block_tests_of signals t.m line) ≡ Err r → Err r ≡ due
       unfolding read_blocks
       at-refused r e = rw (no_end, named, e)
 
@@ -74,12 +73,12 @@ left-start text outputs t ns at l e f = record {
   reads = refl;
 }
 
-module _ (text : Text) (outputs : List Text) (t : Session) (ns : Names) (i : ℕ) (answer : Loaded) (H : Left text outputs t ns i answer) where
+module _ (text : Text) (outputs : List Text) (t : Session) (ns : Names) (i : ℕ) (answer : Result Session Refusal) (H : Left text outputs t ns i answer) where
   abbrev signals : List Text
   signals = signals_at text t ns
 
   -- no line is left
-  pub turn-stop : statements (drop i text) ≡ [] → load_refused OutsideSubset ≡ answer
+  pub turn-stop : statements (drop i text) ≡ [] → Err OutsideSubset ≡ answer
   unfolding read_blocks
   turn-stop e = sym (ap (read_blocks (draft_of signals outputs t H.rows H.digit)) e) ∙ H.reads
 
@@ -94,19 +93,19 @@ module _ (text : Text) (outputs : List Text) (t : Session) (ns : Names) (i : ℕ
     turn_end o = at-end signals outputs t H.rows H.digit (words_at text l) rest o ∙ left_is
 
     module _ (no_end : opens (ascii ".end") (words_at text l) ≡ false) where
-      pub turn-other : opens (ascii ".names") (words_at text l) ≡ false → load_refused OutsideSubset ≡ answer
+      pub turn-other : opens (ascii ".names") (words_at text l) ≡ false → Err OutsideSubset ≡ answer
       turn-other o =
           at_other signals outputs t H.rows H.digit (words_at text l) rest no_end o
           (sym (ap (λ (ss : List (List Text)). is_row (draft_of signals outputs t H.rows H.digit) (get_or ss 0 [])) e) ∙ H.other)
           ∙ left_is
 
-      module _ (named : opens (ascii ".names") (words_at text l) ≡ true) (b : Drafted) (B : BlockRead text l t ns b) where
-        pub turn-refused : (r : Refusal) → b.answer ≡ Refused r → load_refused r ≡ answer
-        turn-refused r z = at-refused signals outputs t H.rows H.digit (words_at text l) rest no_end named r (sym B.answer-is ∙ z) ∙ left_is
+      module _ (named : opens (ascii ".names") (words_at text l) ≡ true) (b : Result Drafted Refusal) (B : BlockRead text l t ns b) where
+        pub turn-refused : (r : Refusal) → b ≡ Err r → Err r ≡ answer
+        turn-refused r z = at-refused signals outputs t H.rows H.digit (words_at text l) rest no_end named r (sym B.answer-is ∙ ap answer_of z) ∙ left_is
 
         -- one block more
-        pub turn-block : b.answer ≡ Done → Left text outputs b.session b.signals b.next answer
-        turn-block z = rw (at_block signals outputs t H.rows H.digit (words_at text l) rest no_end named (sym B.answer-is ∙ z) ∙ left_is) at (B.left z outputs)
+        pub turn-block : (d : Drafted) → b ≡ Ok d → Left text outputs d.session d.signals d.next answer
+        turn-block d z = rw (at_block signals outputs t H.rows H.digit (words_at text l) rest no_end named (sym B.answer-is ∙ ap answer_of z) ∙ left_is) at (B.left d z outputs)
 
 -- ## A block
 
@@ -120,18 +119,21 @@ block-facts signals m line e =
     (omega arith, omega arith, omega arith)
 
 module _ (signals : List Text) (t : Session) (line : List Text) (a : Answer) (e : a ≡ first (block_tests_of signals t.m line)) where
-  pub gate-refused : (r : Refusal) → a ≡ Refused r → load_refused r ≡ gate_of signals t line
+  pub gate-refused : (r : Refusal) → a ≡ Err r → Err r ≡ gate_of signals t line
   gate-refused r z = rw (sym e ∙ z)
 
-  pub gate-done : (u : Session) → a ≡ Done → u ≡ with_fanins t (map (place_in signals) (fanin_names (names line))) → load_done u ≡ gate_of signals t line
+  pub gate-done : (u : Session) → a ≡ Done → u ≡ with_fanins t (map (place_in signals) (fanin_names (names line))) → Ok u ≡ gate_of signals t line
   gate-done u z q = rw (sym e ∙ z, q)
 
-gate-answer : (a : Answer) (u : Session) → (onward a (load_done u)).answer ≡ a
-gate-answer Done u = refl
-gate-answer (Refused r) u = refl
+gate-answer : (a : Answer) (u : Session) → answer_of (giving a u) ≡ a
+gate-answer (Ok _) u = refl
+gate-answer (Err r) u = refl
 
-gate-session : (a : Answer) (u : Session) → a ≡ Done → (onward a (load_done u)).session ≡ u
-gate-session a u e = rw e
+gate-session : (a : Answer) (u v : Session) → a ≡ Done → Ok v ≡ giving a u → v ≡ u
+gate-session a u v e q = given-same (rw e at q)
+
+read-same : {a b : Drafted} → ◌≡◌ {A = Result Drafted Refusal} (Ok a) (Ok b) → a ≡ b
+read-same e = cc
 
 module _ (text : Text) (l : Line) (t : Session) (ns : Names) (F : Fits text t ns) (L : LineIn text l) where
   abbrev c : ℕ
@@ -150,25 +152,25 @@ module _ (text : Text) (l : Line) (t : Session) (ns : Names) (F : Fits text t ns
   tests = first (block_tests_of (signals_at text t ns) t.m (words_at text l))
 
   -- as the code lends them: parts from the start on
-  abbrev lent : Loaded
+  abbrev lent : Result Session Refusal
   lent = gate_of (names_at text (take (t.n + t.m - 0) ns.starts) (take (t.n + t.m - 0) ns.ends)) t (fields (drop l.at (take (l.end - 0) text)))
 
   lent_is : lent ≡ gate_of (signals_at text t ns) t (words_at text l)
   lent_is = rw (sub-zero (t.n + t.m), sub-zero l.end)
 
-  module _ (x : Loaded) (e : x ≡ gate_of (names_at text (take (t.n + t.m - 0) ns.starts) (take (t.n + t.m - 0) ns.ends)) t (fields (drop l.at (take (l.end - 0) text)))) where
-    pub answer-of : x.answer ≡ first (block_tests_of (signals_at text t ns) t.m (words_at text l))
-    answer-of = ap (λ (y : Loaded). y.answer) (e ∙ lent_is) ∙ gate-answer tests (with_fanins t fs)
+  module _ (x : Result Session Refusal) (e : x ≡ gate_of (names_at text (take (t.n + t.m - 0) ns.starts) (take (t.n + t.m - 0) ns.ends)) t (fields (drop l.at (take (l.end - 0) text)))) where
+    pub answer-of : answer_of x ≡ first (block_tests_of (signals_at text t ns) t.m (words_at text l))
+    answer-of = ap answer_of (e ∙ lent_is) ∙ gate-answer tests (with_fanins t fs)
 
-    pub block_refused : (r : Refusal) → x.answer ≡ Refused r → (u : Session) (m : Names) (i : ℕ) → BlockRead text l t ns (record { answer = x.answer; session = u; signals = m; next = i })
-    block_refused r z u m i = record {
-      answer-is = answer-of;
-      further = λ d. refused-done r (sym z ∙ d);
-      left = λ d. refused-done r (sym z ∙ d);
+    pub block_refused : (r : Refusal) → x ≡ Err r → {b : Result Drafted Refusal} → b ≡ Err r → BlockRead text l t ns b
+    block_refused r z w = record {
+      answer-is = ap answer_of w ∙ sym (ap answer_of z) ∙ answer-of;
+      further = λ d q. refused-done r (ap answer_of (sym w ∙ q));
+      left = λ d q. refused-done r (ap answer_of (sym w ∙ q));
     }
 
-    session-of : x.answer ≡ Done → x.session ≡ with_fanins t (map (place_in (signals_at text t ns)) (fanin_names (names (words_at text l))))
-    session-of z = ap (λ (y : Loaded). y.session) (e ∙ lent_is) ∙ gate-session tests (with_fanins t fs) (sym answer-of ∙ z)
+    session-of : {u : Session} → x ≡ Ok u → u ≡ with_fanins t (map (place_in (signals_at text t ns)) (fanin_names (names (words_at text l))))
+    session-of {u} z = gate-session tests (with_fanins t fs) u (sym answer-of ∙ ap answer_of z) (sym z ∙ e ∙ lent_is)
 
   -- the session behind the line
   abbrev new : Session
@@ -237,33 +239,33 @@ module _ (text : Text) (l : Line) (t : Session) (ns : Names) (F : Fits text t ns
             }
 
   -- the block that the code has read
-  module _ (x : Loaded) (q : x ≡ gate_of (names_at text (take (t.n + t.m - 0) ns.starts) (take (t.n + t.m - 0) ns.ends)) t (fields (drop l.at (take (l.end - 0) text)))) (z : x.answer ≡ Done) where
+  module _ (x : Result Session Refusal) (q : x ≡ gate_of (names_at text (take (t.n + t.m - 0) ns.starts) (take (t.n + t.m - 0) ns.ends)) t (fields (drop l.at (take (l.end - 0) text)))) {u : Session} (z : x ≡ Ok u) where
     passes_of : first (block_tests_of (signals_at text t ns) t.m (words_at text l)) ≡ Done
-    passes_of = sym (answer-of x q) ∙ z
+    passes_of = sym (answer-of x q) ∙ ap answer_of z
 
     pub facts : (2 ≤ length (names (fields (drop l.at (take (l.end - 0) text))))) × (t.m < most_gates)
     facts = let f = block-facts held t.m line passes_of in (rw (sub-zero l.end) f.0, f.2)
 
-    pub arity-long : length t.arity ≡ most_gates → length x.session.arity ≡ most_gates
+    pub arity-long : length t.arity ≡ most_gates → length u.arity ≡ most_gates
     arity-long a = ap (λ (u : Session). length u.arity) (session-of x q z) ∙ length-set t.arity t.m (length fs) ∙ a
 
-    pub arity-few : length t.arity ≡ most_gates → get_or x.session.arity t.m 0 ≤ gate_places
+    pub arity-few : length t.arity ≡ most_gates → get_or u.arity t.m 0 ≤ gate_places
     arity-few a =
         let f = block-facts held t.m line passes_of in
         let k : length fs ≡ length (names line) - 1 = length-map (fanin_names (names line)) (place_in held) ∙ length-take-le (length (names line) - 1) (names line) (omega arith) in
-        let g : get_or x.session.arity t.m 0 ≡ length fs = ap (λ (u : Session). get_or u.arity t.m 0) (session-of x q z) ∙ get_or-set_same t.arity t.m (length fs) 0 (omega arith) in
+        let g : get_or u.arity t.m 0 ≡ length fs = ap (λ (u : Session). get_or u.arity t.m 0) (session-of x q z) ∙ get_or-set_same t.arity t.m (length fs) 0 (omega arith) in
         omega arith
 
     pub block-done : length ns.starts ≡ most_signals → length ns.ends ≡ most_signals → (o : Span) (m : Names) (y : Scanned)
         → OwnAt (take (l.end - 0) text) (names (fields (drop l.at (take (l.end - 0) text)))) o
         → m ≡ record { starts = set ns.starts (t.n + t.m) o.start; ends = set ns.ends (t.n + t.m) o.end }
-        → RowsRead text l.next (get_or x.session.arity t.m 0) y
-        → BlockRead text l t ns (record { answer = x.answer; session = with_table x.session t.m y.table; signals = m; next = y.next })
+        → RowsRead text l.next (get_or u.arity t.m 0) y
+        → BlockRead text l t ns (Ok (record { session = with_table u t.m y.table; signals = m; next = y.next }))
     block-done s e o m y O i Y =
         let W : OwnAt (take (l.end - 0) text) (names line) o = rw (part-line text l) at O in
         let Z : RowsRead text l.next (get_or new.arity t.m 0) y = rw (session-of x q z) at Y in
         record {
-          answer-is = answer-of x q;
-          further = λ d. Y.so_far.from;
-          left = λ d outputs. rw (session-of x q z, i) (block-left s e passes_of o W y Z outputs);
+          answer-is = sym passes_of;
+          further = λ d w. rw (← read-same w) Y.so_far.from;
+          left = λ d w outputs. rw (← read-same w, session-of x q z, i) (block-left s e passes_of o W y Z outputs);
         }

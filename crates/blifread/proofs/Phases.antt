@@ -6,15 +6,15 @@ use native.Mathlib.Nat.{sub-zero, add-zero}
 use native.Mathlib.Omega.{arith}
 use lib.ListN.{length, take, drop}
 use Rattle.bits.specs.Bounds.{most_inputs}
-use Rattle.network.specs.declared.Answer.{Answer}
-use Rattle.network.specs.declared.Answer.TheVariants.{Done, Refused}
+use Rattle.std.specs.Prelude.{Result, Err}
+use Rattle.std.specs.Prelude.{Ok}
+use Rattle.network.specs.Answer.{Answer, Done, answer_of, onward}
 use Rattle.network.specs.declared.Refusal.{Refusal}
 use Rattle.network.specs.declared.Refusal.TheVariants.{OutsideSubset}
-use Rattle.network.specs.declared.Loaded.{Loaded}
 use Rattle.network.specs.declared.Session.{Session}
 use Rattle.network.specs.Bounds.{most_outputs}
 use Rattle.network.specs.Tests.{first}
-use Rattle.network.specs.Load.{load_refused, onward, started}
+use Rattle.network.specs.Load.{started}
 use Rattle.network.proofs.TestLaws.{refused-done, clear-e, count-e}
 use Rattle.text.specs.Ascii.{ascii}
 use Rattle.text.specs.Words.{Text}
@@ -41,23 +41,26 @@ names-few word most line a e d =
 pub held-names : (text : Text) (h : ℕ) (S E : List ℕ) (p : ℕ) (fs ws : List Text) → h ≤ length text → Held (take (h - 0) text) S E p fs → fs ≡ ws → Held text S E p ws
 held-names text h S E p fs ws l g e = rw e at (held-wide text h S E p fs l (rw (sub-zero h) at g))
 
-module _ (word : Text) (most : ℕ) (more : List Text → List (List Text) → Loaded) (ss : List (List Text)) where
-  pub line-none : ss ≡ [] → load_refused OutsideSubset ≡ names_line word most more ss
+module _ (word : Text) (most : ℕ) (more : List Text → List (List Text) → Result Session Refusal) (ss : List (List Text)) where
+  pub line-none : ss ≡ [] → Err OutsideSubset ≡ names_line word most more ss
   line-none e = rw e
 
   module _ (line : List Text) (rest : List (List Text)) (e : ss ≡ line ∷ rest) (a : Answer) (q : a ≡ first (names_tests word most line)) where
-    pub line_refused : (r : Refusal) → a ≡ Refused r → load_refused r ≡ names_line word most more ss
+    pub line_refused : (r : Refusal) → a ≡ Err r → Err r ≡ names_line word most more ss
     line_refused r z = rw (e, sym q ∙ z)
 
     pub line-done : a ≡ Done → more (names line) rest ≡ names_line word most more ss
     line-done z = rw (e, sym q ∙ z)
 
-pub none-listed : (text : Text) (at : ℕ) (word : Text) (most : ℕ) (x : Listed) (r : Refusal) → x.answer ≡ Refused r
-    → ((more : List Text → List (List Text) → Loaded) → load_refused r ≡ names_line word most more (statements (drop at text))) → ListedAt text at word most x
-none-listed text at word most x r z f = record {
-  refused = λ q w more. ap (λ (a : Answer). onward a (load_refused r)) (sym w ∙ z) ∙ f more;
-  given = λ d. refused-done r (sym z ∙ d);
+pub none-listed : (text : Text) (at : ℕ) (word : Text) (most : ℕ) {x : Result Listed Refusal} (r : Refusal) → x ≡ Err r
+    → ((more : List Text → List (List Text) → Result Session Refusal) → Err r ≡ names_line word most more (statements (drop at text))) → ListedAt text at word most x
+none-listed text at word most r z f = record {
+  refused = λ q w more. ap (λ (a : Answer). onward a (Err r)) (ap answer_of (sym w ∙ z)) ∙ f more;
+  given = λ x d. refused-done r (ap answer_of (sym z ∙ d));
 }
+
+pub listed-same : {a b : Listed} → ◌≡◌ {A = Result Listed Refusal} (Ok a) (Ok b) → a ≡ b
+listed-same e = cc
 
 inputs-line : (ss : List (List Text)) → names_line (ascii ".inputs") most_inputs read_outputs ss ≡ read_inputs ss
 unfolding read_inputs
@@ -71,25 +74,25 @@ outputs-line ins (line ∷ rest) = refl
 
 -- ## `.outputs`
 
-module _ (text : Text) (at : ℕ) (x : Listed) (X : ListedAt text at (ascii ".outputs") most_outputs x) where
-  pub outputs-refused : (ins : List Text) (r : Refusal) → x.answer ≡ Refused r → load_refused r ≡ read_outputs ins (statements (drop at text))
+module _ (text : Text) (at : ℕ) (l : Result Listed Refusal) (X : ListedAt text at (ascii ".outputs") most_outputs l) where
+  pub outputs-refused : (ins : List Text) (r : Refusal) → l ≡ Err r → Err r ≡ read_outputs ins (statements (drop at text))
   outputs-refused ins r z = X.refused r z (λ outs. read_blocks (begun ins outs)) ∙ outputs-line ins (statements (drop at text))
 
   -- the names of the outputs, as the code lends them
-  pub outputs-named : x.answer ≡ Done → x.count ≤ length x.names.starts → x.count ≤ length x.names.ends
+  pub outputs-named : (x : Listed) → l ≡ Ok x → x.count ≤ length x.names.starts → x.count ≤ length x.names.ends
       → Named text (take (x.count - 0) x.names.starts) (take (x.count - 0) x.names.ends) × (length (take (x.count - 0) x.names.starts) ≤ most_outputs)
-  outputs-named z s e =
-      let g = X.given z in
+  outputs-named x z s e =
+      let g = X.given x z in
       let f = g.few in
       let p = part_length x.count (length x.names.starts) x.names.starts refl s in
       let q = part_length x.count (length x.names.ends) x.names.ends refl e in
       ((rw (part-zero x.count x.names.starts, part-zero x.count x.names.ends) g.held.inside, p ∙ sym q), omega arith)
 
-  pub outputs-done : (ins : List Text) (ns : Names) (n : ℕ) (t : Session) (r : Loaded) → x.answer ≡ Done → Held text ns.starts ns.ends n ins → t ≡ started n 0 x.count
+  pub outputs-done : (ins : List Text) (ns : Names) (n : ℕ) (t : Session) (r : Result Session Refusal) (x : Listed) → l ≡ Ok x → Held text ns.starts ns.ends n ins → t ≡ started n 0 x.count
       → r ≡ read_blocks (draft_of (signals_at text t ns) (names_at text (take (x.count - 0) x.names.starts) (take (x.count - 0) x.names.ends)) t [] 0) (statements (drop x.next text))
       → r ≡ read_outputs ins (statements (drop at text))
-  outputs-done ins ns n t r z h e q =
-      let g = X.given z in
+  outputs-done ins ns n t r x z h e q =
+      let g = X.given x z in
       let rest = statements (drop x.next text) in
       let p = x.count in
       let S = x.names.starts in
@@ -110,24 +113,24 @@ started-fits text t ns n p e l i = rw e (refl, record { inputs = l; gates = omeg
 
 -- ## `.inputs`
 
-module _ (text : Text) (at : ℕ) (x : Listed) (X : ListedAt text at (ascii ".inputs") most_inputs x) where
-  pub inputs-refused : (r : Refusal) → x.answer ≡ Refused r → load_refused r ≡ read_inputs (statements (drop at text))
+module _ (text : Text) (at : ℕ) (l : Result Listed Refusal) (X : ListedAt text at (ascii ".inputs") most_inputs l) where
+  pub inputs-refused : (r : Refusal) → l ≡ Err r → Err r ≡ read_inputs (statements (drop at text))
   inputs-refused r z = X.refused r z read_outputs ∙ inputs-line (statements (drop at text))
 
-  pub inputs-done : (r : Loaded) → (z : x.answer ≡ Done)
+  pub inputs-done : (r : Result Session Refusal) (x : Listed) → l ≡ Ok x
       → ((ws : List Text) → Held text x.names.starts x.names.ends x.count ws → r ≡ read_outputs ws (statements (drop x.next text)))
       → r ≡ read_inputs (statements (drop at text))
-  inputs-done r z f = let g = X.given z in f g.listed g.held ∙ g.reads read_outputs ∙ inputs-line (statements (drop at text))
+  inputs-done r x z f = let g = X.given x z in f g.listed g.held ∙ g.reads read_outputs ∙ inputs-line (statements (drop at text))
 
 -- ## `.model`
 
 module _ (text : Text) where
-  pub read-stop : statements text ≡ [] → load_refused OutsideSubset ≡ read_blif text
+  pub read-stop : statements text ≡ [] → Err OutsideSubset ≡ read_blif text
   unfolding read_blif read_model
   read-stop e = rw e
 
   module _ (line : List Text) (rest : List (List Text)) (e : statements text ≡ line ∷ rest) (a : Answer) (q : a ≡ model_test line) where
-    pub read-refused : (r : Refusal) → a ≡ Refused r → load_refused r ≡ read_blif text
+    pub read-refused : (r : Refusal) → a ≡ Err r → Err r ≡ read_blif text
     unfolding read_blif read_model
     read-refused r z = rw (e, sym q ∙ z)
 

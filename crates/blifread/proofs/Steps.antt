@@ -7,13 +7,12 @@ use native.Mathlib.Omega.{arith}
 use lib.ListN.{length, take, drop, set}
 use lib.Seq.{sets, length-take-le}
 use Rattle.bits.specs.Bounds.{gate_places}
-use Rattle.network.specs.declared.Answer.{Answer}
-use Rattle.network.specs.declared.Answer.TheVariants.{Done, Refused}
+use Rattle.std.specs.Prelude.{Ok, Err}
+use Rattle.network.specs.Answer.{Answer, Done}
 use Rattle.network.specs.declared.Refusal.{Refusal}
 use Rattle.network.specs.declared.Session.{Session}
 use Rattle.network.specs.Bounds.{most_signals}
 use Rattle.network.specs.Tests.{first}
-use Rattle.network.specs.Load.{load_refused, load_done}
 use Rattle.network.specs.declared.Refusal.TheVariants.{OutsideSubset}
 use Rattle.text.specs.Words.{Text}
 use Rattle.blif.specs.Text.{fields}
@@ -82,7 +81,7 @@ finished_with t o = record {
 }
 
 module _ (signals outputs : List Text) (t : Session) (line : List Text) (rest : List (List Text)) (a : Answer) (e : a ≡ first (end_tests_of signals outputs t.m line)) where
-  pub end_refused : (r : Refusal) → a ≡ Refused r → load_refused r ≡ end_of signals outputs t line rest
+  pub end_refused : (r : Refusal) → a ≡ Err r → Err r ≡ end_of signals outputs t line rest
   unfolding end_of
   end_refused r z = rw (sym e ∙ z)
 
@@ -97,10 +96,10 @@ pub end-lent : (text : Text) (l : Line) (t : Session) (ns : Names) (outputs : Li
     ≡ end_of (signals_at text t ns) outputs t (words_at text l) rest
 end-lent text l t ns outputs rest = rw (sub-zero (t.n + t.m), sub-zero l.end)
 
-pub rest_some : (t : Session) (line : List Text) (rest ss : List (List Text)) → ss ≡ line ∷ rest → load_refused OutsideSubset ≡ read_rest t ss
+pub rest_some : (t : Session) (line : List Text) (rest ss : List (List Text)) → ss ≡ line ∷ rest → Err OutsideSubset ≡ read_rest t ss
 rest_some t line rest ss e = rw e
 
-pub rest-none : (t : Session) (ss : List (List Text)) → ss ≡ [] → load_done t ≡ read_rest t ss
+pub rest-none : (t : Session) (ss : List (List Text)) → ss ≡ [] → Ok t ≡ read_rest t ss
 rest-none t ss e = rw e
 
 -- ## A gate put in place

@@ -1,14 +1,14 @@
 -- What has been read of a text, its names as places. Assumes nothing.
 use Rattle.std.specs.Prelude.{◌≡◌, false, List, [], ◌∷◌, map, ℕ, ◌+◌, ◌-◌, ◌≤◌, length, get_or, take, drop}
 use Rattle.bits.specs.Bounds.{most_inputs}
+use Rattle.std.specs.Prelude.{Result, Ok, Err}
+use Rattle.network.specs.Answer.{answer_of, giving, onward}
 use Rattle.network.specs.declared.Session.{Session}
-use Rattle.network.specs.declared.Loaded.{Loaded}
-use Rattle.network.specs.declared.Answer.TheVariants.{Done, Refused}
 use Rattle.network.specs.declared.Refusal.{Refusal}
 use Rattle.network.specs.declared.Refusal.TheVariants.{OutsideSubset}
 use Rattle.network.specs.Bounds.{most_gates}
 use Rattle.network.specs.Tests.{first}
-use Rattle.network.specs.Load.{with_gate, load_done, load_refused, onward}
+use Rattle.network.specs.Load.{with_gate}
 use Rattle.text.specs.Words.{Text}
 use Rattle.blif.specs.Text.{statements}
 use Rattle.blif.specs.Read.{Draft, place_in, names, fanin_names, counted, last_arity, is_row, with_table, with_block, with_outputs, names_tests, read_rest, read_blocks}
@@ -60,8 +60,8 @@ abbrev pub with_fanins : Session → List ℕ → Session
 with_fanins t fs = with_gate (counted t (t.m + 1)) t.m (length fs) fs 0
 
 -- the gate of a `.names` line, or the line's refusal
-abbrev pub gate_of : List Text → Session → List Text → Loaded
-gate_of signals t line = onward (first (block_tests_of signals t.m line)) (load_done (with_fanins t (map (place_in signals) (fanin_names (names line)))))
+abbrev pub gate_of : List Text → Session → List Text → Result Session Refusal
+gate_of signals t line = giving (first (block_tests_of signals t.m line)) (with_fanins t (map (place_in signals) (fanin_names (names line))))
 
 -- the names of the signals
 abbrev pub signals_at : Text → Session → Names → List Text
@@ -73,7 +73,7 @@ pub record Fits (text : Text) (t : Session) (ns : Names) : Type 0 where
   pub inside : Inside text (take (t.n + t.m) ns.starts) (take (t.n + t.m) ns.ends)
 
 -- the lines from place i on, of which the first is no row of the last block, give the answer
-pub record Left (text : Text) (outputs : List Text) (t : Session) (ns : Names) (i : ℕ) (answer : Loaded) : Type 0 where
+pub record Left (text : Text) (outputs : List Text) (t : Session) (ns : Names) (i : ℕ) (answer : Result Session Refusal) : Type 0 where
   pub rows : List Text
   pub digit : ℕ
   pub place : i ≤ length text
@@ -82,24 +82,24 @@ pub record Left (text : Text) (outputs : List Text) (t : Session) (ns : Names) (
   pub reads : read_blocks (draft_of (signals_at text t ns) outputs t rows digit) (statements (drop i text)) ≡ answer
 
 -- what a block is read as
-pub record BlockRead (text : Text) (l : Line) (t : Session) (ns : Names) (r : Drafted) : Type 0 where
-  pub answer-is : r.answer ≡ first (block_tests_of (signals_at text t ns) t.m (words_at text l))
-  pub further : r.answer ≡ Done → l.next ≤ r.next
-  pub left : r.answer ≡ Done → (outputs : List Text)
-      → Left text outputs r.session r.signals r.next
+pub record BlockRead (text : Text) (l : Line) (t : Session) (ns : Names) (r : Result Drafted Refusal) : Type 0 where
+  pub answer-is : answer_of r ≡ first (block_tests_of (signals_at text t ns) t.m (words_at text l))
+  pub further : (d : Drafted) → r ≡ Ok d → l.next ≤ d.next
+  pub left : (d : Drafted) → r ≡ Ok d → (outputs : List Text)
+      → Left text outputs d.session d.signals d.next
       (read_blocks (with_block (draft_of (signals_at text t ns) outputs t [] 0) (words_at text l)) (statements (drop l.next text)))
 
 -- ## `.end`
 
 -- what the `.end` line and the lines behind it answer
-unfoldable pub end_of : (signals outputs : List Text) → Session → List Text → List (List Text) → Loaded
+unfoldable pub end_of : (signals outputs : List Text) → Session → List Text → List (List Text) → Result Session Refusal
 end_of signals outputs t line rest = onward (first (end_tests_of signals outputs t.m line)) (read_rest (with_outputs t (map (place_in signals) outputs)) rest)
 
 -- ## A line of names
 
 -- the line, and then what `more` says of its names and of the lines behind it
-abbrev pub names_line : Text → ℕ → (List Text → List (List Text) → Loaded) → List (List Text) → Loaded
-names_line word most more [] = load_refused OutsideSubset
+abbrev pub names_line : Text → ℕ → (List Text → List (List Text) → Result Session Refusal) → List (List Text) → Result Session Refusal
+names_line word most more [] = Err OutsideSubset
 names_line word most more (line ∷ rest) = onward (first (names_tests word most line)) (more (names line) rest)
 
 -- its names by their places
@@ -108,8 +108,8 @@ pub record Listing (text : Text) (at : ℕ) (word : Text) (most : ℕ) (r : List
   pub held : Held text r.names.starts r.names.ends r.count listed
   pub few : r.count ≤ most
   pub place : r.next ≤ length text
-  pub reads : (more : List Text → List (List Text) → Loaded) → more listed (statements (drop r.next text)) ≡ names_line word most more (statements (drop at text))
+  pub reads : (more : List Text → List (List Text) → Result Session Refusal) → more listed (statements (drop r.next text)) ≡ names_line word most more (statements (drop at text))
 
-pub record ListedAt (text : Text) (at : ℕ) (word : Text) (most : ℕ) (r : Listed) : Type 0 where
-  pub refused : (q : Refusal) → r.answer ≡ Refused q → (more : List Text → List (List Text) → Loaded) → load_refused q ≡ names_line word most more (statements (drop at text))
-  pub given : r.answer ≡ Done → Listing text at word most r
+pub record ListedAt (text : Text) (at : ℕ) (word : Text) (most : ℕ) (r : Result Listed Refusal) : Type 0 where
+  pub refused : (q : Refusal) → r ≡ Err q → (more : List Text → List (List Text) → Result Session Refusal) → Err q ≡ names_line word most more (statements (drop at text))
+  pub given : (x : Listed) → r ≡ Ok x → Listing text at word most x

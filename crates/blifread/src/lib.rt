@@ -3,7 +3,6 @@
 
 ghost use Rattle.std.specs.Prelude.{◌≡◌, List, [], map, ◌+◌, ◌≤◌, ◌<◌, length, take, drop, set};
 ghost use Rattle.bits.specs.Bounds.{most_inputs, gate_places};
-ghost use Rattle.network.specs.declared.Answer.TheVariants.{Refused};
 ghost use Rattle.network.specs.Bounds.{most_gates, most_outputs, most_fanins, most_signals};
 ghost use Rattle.text.specs.Words.{Text};
 ghost use Rattle.blif.specs.Text.{fields, statements};
@@ -17,7 +16,7 @@ ghost use Rattle.blifread.specs.Drafts.{LineIn, draft_of, RowsRead, with_fanins,
 use bits::{GATE_PLACES, MOST_INPUTS};
 use blifline::Names;
 use bliftext::{Line, Span};
-use network::{Answer, Loaded, MOST_OUTPUTS, MOST_SIGNALS, Refusal, Session};
+use network::{MOST_OUTPUTS, MOST_SIGNALS, Refusal, Session};
 
 // Whether the line's first word is w.
 fn opens(text: &[u8], l: Line, w: &[u8]) -> bool
@@ -89,19 +88,13 @@ fn with_block(
 }
 
 // The same where the line passes its tests.
-fn gate(t: Session, text: &[u8], starts: &[usize], ends: &[usize], s: &[u8], at: usize) -> Loaded
+fn gate(t: Session, text: &[u8], starts: &[usize], ends: &[usize], s: &[u8], at: usize) -> Result<Session, Refusal>
     requires { Named text.now starts.now ends.now × (at ≤ length s.now) × (length starts.now ≤ most_signals) × (t.m ≤ most_gates) }
     ensures { result ≡ gate_of (names_at text.now starts.now ends.now) t (fields (drop at s.now)) }
 {
-    let a = blifline::block_test(text, starts, ends, s, at, t.m as usize);
-    if let Answer::Refused(r) = a {
-        return network::refused(r);
-    }
+    blifline::block_test(text, starts, ends, s, at, t.m as usize)?;
     let u = with_block(t, text, starts, ends, s, at);
-    Loaded {
-        answer: Answer::Done,
-        session: u,
-    }
+    Ok(u)
 }
 
 // One name more.
@@ -118,14 +111,13 @@ fn with_name(ns: Names, c: usize, w: Span) -> Names
 // What has been read behind a block: the network and the names of its signals, and the place of the next line.
 #[derive(Drop)]
 struct Drafted {
-    answer: Answer,
     session: Session,
     signals: Names,
     next: usize,
 }
 
 // One block: its `.names` line, then its rows.
-fn block(text: &[u8], l: Line, t: Session, ns: Names) -> Drafted
+fn block(text: &[u8], l: Line, t: Session, ns: Names) -> Result<Drafted, Refusal>
     requires { LineIn text.now l × Fits text.now t ns }
     ensures { BlockRead text.now l t ns result }
 {
@@ -134,41 +126,28 @@ fn block(text: &[u8], l: Line, t: Session, ns: Names) -> Drafted
     let starts = ns.starts;
     let ends = ns.ends;
     let c = (t.n + t.m) as usize;
-    let x = gate(t, text, &starts[0..c], &ends[0..c], s, l.at);
-    let a = x.answer;
-    if let Answer::Refused(_) = a {
-        return Drafted {
-            answer: a,
-            session: t,
-            signals: ns,
-            next: 0,
-        };
-    }
+    let x = gate(t, text, &starts[0..c], &ends[0..c], s, l.at)?;
     let more = with_name(ns, c, blifline::own(s, l.at));
     let g = t.m as usize;
-    let mut u = x.session;
-    let y = rows(text, l.next, u.arity[g]);
+    let y = rows(text, l.next, x.arity[g]);
+    let mut u = x;
     u.loaded[g] = y.table;
     u.current[g] = y.table;
-    Drafted {
-        answer: a,
+    Ok(Drafted {
         session: u,
         signals: more,
         next: y.next,
-    }
+    })
 }
 
 // What follows the `.end` line: nothing.
-fn rest(text: &[u8], at: usize, t: Session) -> Loaded
+fn rest(text: &[u8], at: usize, t: Session) -> Result<Session, Refusal>
     requires { at ≤ length text.now }
     ensures { result ≡ read_rest t (statements (drop at text.now)) }
 {
     match bliftext::line_from(text, at) {
-        Some(_) => network::refused(Refusal::OutsideSubset),
-        None => Loaded {
-            answer: Answer::Done,
-            session: t,
-        },
+        Some(_) => Err(Refusal::OutsideSubset),
+        None => Ok(t),
     }
 }
 
@@ -182,14 +161,11 @@ fn finish(
     s: &[u8],
     l: Line,
     t: Session,
-) -> Loaded
+) -> Result<Session, Refusal>
     requires { Named text.now starts.now ends.now × Named text.now outs.now stops.now × (l.at ≤ length s.now) × (length outs.now ≤ most_outputs) × (length starts.now ≤ most_signals) × (l.next ≤ length text.now) }
     ensures { result ≡ end_of (names_at text.now starts.now ends.now) (names_at text.now outs.now stops.now) t (fields (drop l.at s.now)) (statements (drop l.next text.now)) }
 {
-    let a = blifline::end_test(text, starts, ends, outs, stops, s, l.at, t.m as usize);
-    if let Answer::Refused(r) = a {
-        return network::refused(r);
-    }
+    blifline::end_test(text, starts, ends, outs, stops, s, l.at, t.m as usize)?;
     let o = t.outputs;
     let f = blifline::put_outputs(text, starts, ends, outs, stops, o);
     let mut u = t;
@@ -198,7 +174,7 @@ fn finish(
 }
 
 // The same by the line's place and those of the signals' names.
-fn end(text: &[u8], l: Line, t: Session, ns: Names, outs: &[usize], stops: &[usize]) -> Loaded
+fn end(text: &[u8], l: Line, t: Session, ns: Names, outs: &[usize], stops: &[usize]) -> Result<Session, Refusal>
     requires { LineIn text.now l × Fits text.now t ns × Named text.now outs.now stops.now × (length outs.now ≤ most_outputs) }
     ensures { result ≡ end_of (signals_at text.now t ns) (names_at text.now outs.now stops.now) t (words_at text.now l) (statements (drop l.next text.now)) }
 {
@@ -219,7 +195,7 @@ fn end(text: &[u8], l: Line, t: Session, ns: Names, outs: &[usize], stops: &[usi
 }
 
 // Blocks, then `.end`.
-fn blocks(text: &[u8], at: usize, t: Session, ins: Names, outs: &[usize], stops: &[usize]) -> Loaded
+fn blocks(text: &[u8], at: usize, t: Session, ins: Names, outs: &[usize], stops: &[usize]) -> Result<Session, Refusal>
     requires { (at ≤ length text.now) × (t.m ≡ 0) × Fits text.now t ins × Named text.now outs.now stops.now × (length outs.now ≤ most_outputs) }
     ensures { result ≡ read_blocks (draft_of (signals_at text.now t ins) (names_at text.now outs.now stops.now) t [] 0) (statements (drop at text.now)) }
 {
@@ -231,81 +207,52 @@ fn blocks(text: &[u8], at: usize, t: Session, ins: Names, outs: &[usize], stops:
             return end(text, l, u, ns, outs, stops);
         }
         if !opens(text, l, b".names") {
-            return network::refused(Refusal::OutsideSubset);
+            return Err(Refusal::OutsideSubset);
         }
-        let b = block(text, l, u, ns);
-        let a = b.answer;
-        if let Answer::Refused(r) = a {
-            return network::refused(r);
-        }
+        let b = block(text, l, u, ns)?;
         u = b.session;
         ns = b.signals;
         i = b.next;
     }
-    network::refused(Refusal::OutsideSubset)
+    Err(Refusal::OutsideSubset)
 }
 
 // A line of names: these by their places, their number, and the place of the next line.
 #[derive(Drop)]
 struct Listed {
-    answer: Answer,
     names: Names,
     count: usize,
     next: usize,
 }
 
-// No names.
-fn unlisted(r: Refusal) -> Listed
-    ensures { result.answer ≡ Refused r }
-{
-    let none = Names {
-        starts: [0usize; MOST_SIGNALS],
-        ends: [0usize; MOST_SIGNALS],
-    };
-    Listed {
-        answer: Answer::Refused(r),
-        names: none,
-        count: 0,
-        next: 0,
-    }
-}
-
 // The names of the line at `at`, which opens with the word and has at most so many.
-fn names_line(text: &[u8], at: usize, word: &[u8], most: usize) -> Listed
+fn names_line(text: &[u8], at: usize, word: &[u8], most: usize) -> Result<Listed, Refusal>
     requires { (at ≤ length text.now) × (most ≤ most_signals) }
     ensures { ListedAt text.now at word.now most result }
 {
     let Some(l) = bliftext::line_from(text, at) else {
-        return unlisted(Refusal::OutsideSubset);
+        return Err(Refusal::OutsideSubset);
     };
     let h = l.end;
     let s = &text[0..h];
-    let a = blifline::names_test(s, l.at, word, most);
-    if let Answer::Refused(r) = a {
-        return unlisted(r);
-    }
+    blifline::names_test(s, l.at, word, most)?;
     let x = bliftext::word_from(s, l.at);
     let e = x.end;
     let n = bliftext::count(s, e);
     let ns = blifline::names_at(s, e, n);
-    Listed {
-        answer: Answer::Done,
+    Ok(Listed {
         names: ns,
         count: n,
         next: l.next,
-    }
+    })
 }
 
 // The `.outputs` line, then the blocks; the first n names are those of the inputs.
-fn outputs(text: &[u8], at: usize, ins: Names, n: usize) -> Loaded
+fn outputs(text: &[u8], at: usize, ins: Names, n: usize) -> Result<Session, Refusal>
     requires { (at ≤ length text.now) × (n ≤ most_inputs) × Inside text.now (take n ins.starts) (take n ins.ends) }
     ensures { (ws : List Text) → Held text.now ins.starts ins.ends n ws → result ≡ read_outputs ws (statements (drop at text.now)) }
 {
-    let x = names_line(text, at, b".outputs", MOST_OUTPUTS);
-    let a = x.answer;
-    if let Answer::Refused(r) = a {
-        return network::refused(r);
-    }
+    let x = names_line(text, at, b".outputs", MOST_OUTPUTS)?;
     let p = x.count;
     let outs = x.names;
     let starts = outs.starts;
@@ -315,31 +262,24 @@ fn outputs(text: &[u8], at: usize, ins: Names, n: usize) -> Loaded
 }
 
 // The `.inputs` line, then the others.
-fn inputs(text: &[u8], at: usize) -> Loaded
+fn inputs(text: &[u8], at: usize) -> Result<Session, Refusal>
     requires { at ≤ length text.now }
     ensures { result ≡ read_inputs (statements (drop at text.now)) }
 {
-    let x = names_line(text, at, b".inputs", MOST_INPUTS);
-    let a = x.answer;
-    if let Answer::Refused(r) = a {
-        return network::refused(r);
-    }
+    let x = names_line(text, at, b".inputs", MOST_INPUTS)?;
     outputs(text, x.next, x.names, x.count)
 }
 
 // Any bytes: the network of the text, with no open tables yet, or the refusal.
-pub fn read(text: &[u8]) -> Loaded
+pub fn read(text: &[u8]) -> Result<Session, Refusal>
     ensures { result ≡ read_blif text.now }
 {
     let Some(l) = bliftext::line_from(text, 0) else {
-        return network::refused(Refusal::OutsideSubset);
+        return Err(Refusal::OutsideSubset);
     };
     let w = l.at;
     let h = l.end;
     let s = &text[0..h];
-    let a = blifline::model_test(s, w);
-    if let Answer::Refused(r) = a {
-        return network::refused(r);
-    }
+    blifline::model_test(s, w)?;
     inputs(text, l.next)
 }

@@ -11,11 +11,11 @@ use Rattle.bits.specs.Range.{places, up_from}
 use Rattle.bits.specs.Bit.{bit}
 use Rattle.bits.proofs.Ranges.{length-places, map_snoc, up-places}
 use Rattle.buffer.specs.Laid.{Laid}
+use Rattle.std.specs.Prelude.{Ok, Err}
+use Rattle.network.specs.Answer.{Done}
 use Rattle.network.specs.declared.Session.{Session}
-use Rattle.network.specs.declared.WriteAnswer.TheVariants as write
 use Rattle.network.specs.declared.Refusal.{Refusal}
 use Rattle.network.specs.declared.Refusal.TheVariants.{BufferTooShort}
-use Rattle.network.specs.declared.Answer.TheVariants.{Done, Refused}
 use Rattle.network.specs.Net.{Gate, Net, arity, gate}
 use Rattle.network.specs.Flat.{gate_at, net_of, current_net}
 use Rattle.network.specs.State.{arity_of, state_fault}
@@ -135,16 +135,16 @@ blif-laid s t v e l = let q : text_bytes t ≡ text (lines_of (outgoing (current
 -- ## The call
 
 module _ (s : Session) (buffer : List ℕ) (v : state_fault s ≡ Done) where
-  pub written-copies : (r : Refusal) → copies_test s ≡ Refused r → write_blif_of s buffer ≡ record { answer = write.Refused r; buffer = buffer }
+  pub written-copies : (r : Refusal) → copies_test s ≡ Err r → write_blif_of s buffer ≡ record { answer = Err r; buffer = buffer }
   unfolding write_blif_of
   written-copies r e = rw (state-i s v, e)
 
   pub written-short : copies_test s ≡ Done → length buffer < length (blif_text s)
-      → write_blif_of s buffer ≡ record { answer = write.Refused BufferTooShort; buffer = buffer }
+      → write_blif_of s buffer ≡ record { answer = Err BufferTooShort; buffer = buffer }
   unfolding write_blif_of
   written-short e h = rw (state-i s v, e, lt-ltb (length buffer) (length (blif_text s)) h)
 
   pub written-done : copies_test s ≡ Done → length (blif_text s) ≤ length buffer
-      → write_blif_of s buffer ≡ record { answer = write.Written (length (blif_text s)); buffer = overwritten (blif_text s) buffer }
+      → write_blif_of s buffer ≡ record { answer = Ok (length (blif_text s)); buffer = overwritten (blif_text s) buffer }
   unfolding write_blif_of
   written-done e h = rw (state-i s v, e, le-ltb (length buffer) (length (blif_text s)) h)

@@ -6,7 +6,7 @@ ghost use Rattle.bits.specs.Bounds.{most_inputs};
 ghost use Rattle.bits.specs.Range.{num};
 ghost use Rattle.bits.specs.Bit.{bit};
 ghost use Rattle.buffer.specs.Laid.{Laid};
-ghost use Rattle.network.specs.declared.Answer.TheVariants.{Done};
+ghost use Rattle.network.specs.Answer.{Done};
 ghost use Rattle.network.specs.Bounds.{most_outputs, most_fanins, most_signals, most_entries};
 ghost use Rattle.network.specs.State.{state_fault};
 ghost use Rattle.blif.specs.Write.{marks, copies_test, blif_text, write_blif_of, most_block_bytes, most_blif_bytes};
@@ -14,9 +14,7 @@ ghost use Rattle.blifcopies.specs.Ready.{Ready};
 ghost use Rattle.blifwrite.specs.Pieces.{name_bytes, names_bytes, row_bytes, entry_bytes, cover_bytes, opening_bytes, block_bytes, blocks_bytes, head_bytes, text_bytes, most_name_bytes, most_row_bytes, most_cover_bytes, most_head_bytes};
 
 use bits::{GATE_PLACES, MOST_INPUTS};
-use network::{
-    Answer, MOST_ENTRIES, MOST_FANINS, MOST_GATES, MOST_OUTPUTS, Refusal, Session, WriteAnswer,
-};
+use network::{MOST_ENTRIES, MOST_FANINS, MOST_GATES, MOST_OUTPUTS, Refusal, Session};
 
 // The most bytes of a block, a row for each entry, and of a text: its first three lines, the blocks, the last line. A name has three
 // bytes at the most, and a space before it.
@@ -205,23 +203,20 @@ fn put_blif(buf: &mut [u8], s: Session) -> usize
 }
 
 // The text of a valid session from the start of the buffer, with its length, or 3, or 9; the rest of the buffer stays. Callers test the session.
-pub fn write(s: Session, buf: &mut [u8]) -> WriteAnswer
+pub fn write(s: Session, buf: &mut [u8]) -> Result<usize, Refusal>
     requires { state_fault s ≡ Done }
     ensures { record { answer = result; buffer = buf.new } ≡ write_blif_of s buf.old }
 {
-    let c = blifcopies::copies_test(s);
-    if let Answer::Refused(r) = c {
-        return WriteAnswer::Refused(r);
-    }
+    blifcopies::copies_test(s)?;
     if MOST_BLIF_BYTES <= buf.len() {
         let size = put_blif(buf, s);
-        return WriteAnswer::Written(size);
+        return Ok(size);
     }
     let mut text = [0u8; MOST_BLIF_BYTES];
     let n = put_blif(&mut text, s);
     if buf.len() < n {
-        return WriteAnswer::Refused(Refusal::BufferTooShort);
+        return Err(Refusal::BufferTooShort);
     }
     let k = buffer::copy(buf, 0, &text[0..n]);
-    WriteAnswer::Written(k)
+    Ok(k)
 }

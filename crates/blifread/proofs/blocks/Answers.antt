@@ -2,6 +2,7 @@
 use mathlib.Core.Path.{sym, ◌∙◌}
 use mathlib.Core.List.{[]}
 use lib.ListN.{drop}
+use Rattle.network.proofs.TestLaws.{handed-on}
 use Rattle.blif.specs.Text.{statements}
 use Rattle.blif.specs.Read.{read_blocks}
 use Rattle.bliftext.specs.Named.{names_at}
@@ -31,12 +32,11 @@ returns-then-not-opens c =
     let n = c.line_from in
     let l = c.in-Some.l in
     let lo = c.in-Some.ensures in
-    c.refused.ensures
-    ∙ turn-other text os h.u h.ns h.i due h.invariant l lo.reads (sym c.opens.ensures ∙ c.if-opens.false)
+    turn-other text os h.u h.ns h.i due h.invariant l lo.reads (sym c.opens.ensures ∙ c.if-opens.false)
     (sym c.opens-in-Some.ensures ∙ c.if-not-opens.true)
 
-pub returns-in-Refused : goal.returns-in-Refused
-returns-in-Refused c =
+pub returns-in_err-b : goal.returns-in_err-b
+returns-in_err-b c =
     let a = c.args in
     let text = a.text.now in
     let os = names_at text a.outs.now a.stops.now in
@@ -46,9 +46,8 @@ returns-in-Refused c =
     let l = c.in-Some.l in
     let lo = c.in-Some.ensures in
     let b = c.block-b in
-    c.refused-in-Refused.ensures
-    ∙ turn-refused text os h.u h.ns h.i due h.invariant l lo.reads (sym c.opens.ensures ∙ c.if-opens.false)
-    (sym c.opens-in-Some.ensures ∙ c.if-not-opens.false) b.result b.ensures _ c.in-Refused.is
+    handed-on c.from_residual.ensures.1 (turn-refused text os h.u h.ns h.i due h.invariant l lo.reads (sym c.opens.ensures ∙ c.if-opens.false)
+    (sym c.opens-in-Some.ensures ∙ c.if-not-opens.false) b.result b.ensures _ c.in_err-b.was)
 
 pub loop-l-preserved : goal.loop-l-preserved
 loop-l-preserved c =
@@ -62,7 +61,7 @@ loop-l-preserved c =
     let lo = c.in-Some.ensures in
     let b = c.block-b in
     turn-block text os h.u h.ns h.i due h.invariant l lo.reads (sym c.opens.ensures ∙ c.if-opens.false)
-    (sym c.opens-in-Some.ensures ∙ c.if-not-opens.false) b.result b.ensures c.in_default-a.is
+    (sym c.opens-in-Some.ensures ∙ c.if-not-opens.false) b.result b.ensures _ c.in_ok-b.was
 
 pub returns : goal.returns
 returns c =
@@ -71,4 +70,4 @@ returns c =
     let os = names_at text a.outs.now a.stops.now in
     let due = read_blocks (draft_of (signals_at text a.t a.ins) os a.t [] 0) (statements (drop a.at text)) in
     let h = c.loop-l in
-    c.refused-2.ensures ∙ turn-stop text os h.u h.ns h.i due h.invariant c.in_default.ensures
+    turn-stop text os h.u h.ns h.i due h.invariant c.in_default.ensures

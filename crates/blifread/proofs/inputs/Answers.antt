@@ -1,16 +1,12 @@
 -- `blifread::inputs` meets its contract. Assumes nothing.
-use mathlib.Core.Path.{◌∙◌}
+use Rattle.network.proofs.TestLaws.{handed-on}
 use Rattle.blifread.proofs.Phases.{inputs-refused, inputs-done}
 use Rattle.blifread.proofs.inputs.Goals as goal
 
-pub returns-in-Refused : goal.returns-in-Refused
-returns-in-Refused c =
-    let a = c.args in
-    let x = c.names_line-x in
-    c.refused.ensures ∙ inputs-refused a.text.now a.at x.result x.ensures _ c.in-Refused.is
+pub returns-in_err-x : goal.returns-in_err-x
+returns-in_err-x c =
+    handed-on c.from_residual.ensures.1 (inputs-refused c.args.text.now c.args.at c.names_line-x.result c.names_line-x.ensures _ c.in_err-x.was)
 
 pub returns : goal.returns
 returns c =
-    let a = c.args in
-    let x = c.names_line-x in
-    inputs-done a.text.now a.at x.result x.ensures c.outputs.result c.in_default.is c.outputs.ensures
+    inputs-done c.args.text.now c.args.at c.names_line-x.result c.names_line-x.ensures c.outputs.result _ c.in_ok-x.was c.outputs.ensures

@@ -9,10 +9,10 @@ use Rattle.blif.specs.Write.{blif_text}
 use Rattle.blifwrite.proofs.Shown.{written-copies, written-short, written-done}
 use Rattle.blifwrite.proofs.write.Goals as goal
 
-pub returns-in-Refused : goal.returns-in-Refused
-returns-in-Refused c =
+pub returns-in-Err : goal.returns-in-Err
+returns-in-Err c =
     let x = c.args in
-    sym (written-copies x.s x.buf.now c.requires c.in-Refused.r (sym c.copies_test-c.ensures ∙ c.in-Refused.is))
+    sym (written-copies x.s x.buf.now c.requires c.in-Err.r (sym c.copies_test-c.ensures ∙ c.in-Err.is))
 
 pub put_blif-size-requires : goal.put_blif-size-requires
 put_blif-size-requires c =
