@@ -7,6 +7,8 @@ use native.Mathlib.Nat.{pow-suc, pow-le-pow_right}
 use native.Mathlib.Omega.{arith}
 use lib.ListN.{length, get_or, take, drop, set, length-drop, drop_of_length-le}
 use lib.Seq.{sets, drop-cons, drop-drop, take_all, take-suc-set}
+use borrow.Rule.Slice.PartMut.{put_mid}
+use Rattle.std.proofs.lemmas.List.Edits.{sets-eq}
 use Rattle.network.specs.Bounds.{excluded_words}
 use Rattle.network.specs.Load.{little_endian, words_from}
 
@@ -16,14 +18,10 @@ tail-part rest at = take_all (length rest - at) (drop at rest) (simp length-drop
 
 -- ## A run of bytes stored in place
 
-pub sets-step : (a fs : List ℕ) (at j : ℕ) → j < length fs
-    → sets (set a (at + j) (get_or fs j 0)) (at + (j + 1)) (drop (j + 1) fs) ≡ sets a (at + j) (drop j fs)
-sets-step a fs at j l =
-    let q : at + (j + 1) ≡ suc (at + j) = omega arith in
-    rw (drop-cons fs j 0 l, q, add-one)
-
-pub sets-done : (a fs : List ℕ) (at j : ℕ) → length fs ≤ j → a ≡ sets a (at + j) (drop j fs)
-sets-done a fs at j l = rw (drop_of_length-le fs {i = j} l)
+pub sets-there : (a fs : List ℕ) (at : ℕ) → at + length fs ≤ length a → put_mid at (at + length fs - at) a fs ≡ sets a at fs
+sets-there a fs at h =
+    let n : at + length fs - at ≡ length fs = omega arith in
+    rw (sets-eq fs a at h, append_assoc (take at a) fs (drop (at + length fs) a), n, drop-drop (length fs) at a)
 
 -- ## The bytes of a word, from the last to the first
 
