@@ -1,11 +1,11 @@
 -- The steps of the reader's loops, over plain lists. Assumes nothing.
-use mathlib.Core.Path.{◌≡◌, sym, ◌∙◌}
+use mathlib.Core.Path.{◌≡◌}
 use mathlib.Core.List.{List, [], ◌∷◌, ◌++◌, append_assoc, append-nil}
 use Prim.Native.Nat.{ℕ, suc, ◌+◌, ◌*◌, ◌-◌, ◌^◌, ◌≤◌, ◌<◌}
 use native.Mathlib.Numerals.{add-one}
 use native.Mathlib.Nat.{pow-suc, pow-le-pow_right}
 use native.Mathlib.Omega.{arith}
-use lib.ListN.{length, get_or, take, drop, set, length-drop, drop_of_length-le}
+use lib.ListN.{length, get_or, take, drop, set, length-drop}
 use lib.Seq.{sets, drop-cons, drop-drop, take_all, take-suc-set}
 use borrow.Rule.Slice.PartMut.{put_mid}
 use Rattle.std.proofs.lemmas.List.Edits.{sets-eq}
@@ -15,6 +15,10 @@ use Rattle.network.specs.Load.{little_endian, words_from}
 -- what is lent from `at` on
 pub tail-part : (rest : List ℕ) (at : ℕ) → take (length rest - at) (drop at rest) ≡ drop at rest
 tail-part rest at = take_all (length rest - at) (drop at rest) (simp length-drop (omega arith))
+
+-- a part of `size` bytes
+pub whole_part : (bs : List ℕ) (at size : ℕ) → take (at + size - at) (drop at bs) ≡ take size (drop at bs)
+whole_part bs at size = let n : at + size - at ≡ size = omega arith in rw n
 
 -- ## A run of bytes stored in place
 
@@ -38,17 +42,6 @@ pub word_more : (w b d : ℕ) → w < 256 ^ d → b < 256 → b + 256 * w < 256 
 word_more w b d h l = rw (add-one, pow-suc) (omega arith)
 
 -- ## The words of the excluded set
-
-module _ (bs : List ℕ) (at : ℕ) where
-  pub none_left : length bs ≤ at → 0 ≡ little_endian (take 8 (drop at bs))
-  none_left h = rw (drop_of_length-le bs {i = at} h)
-
-  pub few-left : length bs - at < 8 → take (length bs - at) (drop at bs) ≡ take 8 (drop at bs)
-  few-left h = tail-part bs at ∙ sym (take_all 8 (drop at bs) (simp length-drop (omega arith)))
-
--- a part of `size` bytes
-pub whole_part : (bs : List ℕ) (at size : ℕ) → take (at + size - at) (drop at bs) ≡ take size (drop at bs)
-whole_part bs at size = let n : at + size - at ≡ size = omega arith in rw n
 
 pub words_step : (ws bs : List ℕ) (i x : ℕ) → i < excluded_words → length ws ≡ excluded_words → x ≡ little_endian (take 8 (drop (8 * i) bs))
     → take (i + 1) (set ws i x) ++ words_from (excluded_words - (i + 1)) (drop (8 * (i + 1)) bs) ≡ take i ws ++ words_from (excluded_words - i) (drop (8 * i) bs)
