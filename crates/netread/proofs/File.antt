@@ -9,14 +9,14 @@ use lib.ListN.{length, get_or, take, drop, length-drop}
 use lib.Seq.{drop-drop}
 use borrow.Author.Tests.{leb-true}
 use Rattle.bits.proofs.Ranges.{and_l}
+use Rattle.std.specs.Prelude.{Err}
+use Rattle.network.specs.Answer.{Answer, Done}
 use Rattle.network.specs.declared.Session.{Session}
 use Rattle.network.specs.declared.Refusal.{Refusal}
 use Rattle.network.specs.declared.Refusal.TheVariants.{Truncated}
-use Rattle.network.specs.declared.Answer.{Answer}
-use Rattle.network.specs.declared.Answer.TheVariants.{Done, Refused}
 use Rattle.network.specs.Bounds.{excluded_words}
 use Rattle.network.specs.Tests.{mark, excluded_test}
-use Rattle.network.specs.Load.{load_refused, started, set_bytes, words_from, excluded_in, with_excluded, excluded_record, is_excluded, read_gates, read_body, header_record, read_of}
+use Rattle.network.specs.Load.{started, set_bytes, words_from, excluded_in, with_excluded, excluded_record, is_excluded, read_gates, read_body, header_record, read_of}
 use Rattle.network.proofs.TestLaws.{short-i}
 use Rattle.state.proofs.TestSteps.{or-last}
 use Rattle.netread.proofs.Steps.{tail-part, whole_part}
@@ -31,7 +31,7 @@ module _ (t : Session) (rest : List ℕ) where
     two : 2 ≤ length rest
     two = leb-true 2 (length rest) (and_l (leb 2 (length rest)) (eqb (mark rest) 0x4E58) is)
 
-    pub set-short : length rest < 2 + z → load_refused Truncated ≡ read_body t rest
+    pub set-short : length rest < 2 + z → Err Truncated ≡ read_body t rest
     unfolding read_body excluded_record
     set-short h =
         let b = two in
@@ -51,7 +51,7 @@ module _ (t : Session) (rest : List ℕ) where
       after : drop (set_bytes t.n) (drop 2 rest) ≡ take (length rest - (2 + z)) (drop (2 + z) rest)
       after = rw (← ez, tail-part rest (2 + z)) (drop-drop z 2 rest)
 
-      pub set_past : (r : Refusal) → a ≡ Refused r → load_refused r ≡ read_body t rest
+      pub set_past : (r : Refusal) → a ≡ Err r → Err r ≡ read_body t rest
       unfolding read_body
       set_past r q = rw (is, record-there ∙ q)
 
@@ -60,7 +60,7 @@ module _ (t : Session) (rest : List ℕ) where
       set_on q = rw (is, record-there ∙ q, words-there, after)
 
 module _ (bytes : List ℕ) (a : Answer) (e : a ≡ header_record bytes) where
-  pub read-refused : (r : Refusal) → a ≡ Refused r → load_refused r ≡ read_of bytes
+  pub read-refused : (r : Refusal) → a ≡ Err r → Err r ≡ read_of bytes
   unfolding read_of
   read-refused r q = stop (header_record bytes) r _ (sym e ∙ q)
 

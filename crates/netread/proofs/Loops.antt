@@ -6,12 +6,12 @@ use native.Mathlib.Omega.{arith}
 use lib.ListN.{length, get_or, take, drop, length-drop}
 use lib.Seq.{drop-drop, get_or-drop}
 use borrow.Author.Tests.{le-leb, lt-leb}
+use Rattle.std.specs.Prelude.{Ok, Err}
+use Rattle.network.specs.Answer.{Answer, Done, onward}
 use Rattle.network.specs.declared.Session.{Session}
 use Rattle.network.specs.declared.Refusal.{Refusal}
 use Rattle.network.specs.declared.Refusal.TheVariants.{TrailingBytes}
-use Rattle.network.specs.declared.Answer.{Answer}
-use Rattle.network.specs.declared.Answer.TheVariants.{Done, Refused}
-use Rattle.network.specs.Load.{load_done, load_refused, onward, little_endian, output_record, with_output, read_outputs, form_of, gate_record, with_gate, read_gates}
+use Rattle.network.specs.Load.{little_endian, output_record, with_output, read_outputs, form_of, gate_record, with_gate, read_gates}
 use Rattle.network.specs.Write.{form_for}
 use Rattle.netread.proofs.Steps.{tail-part}
 use Rattle.netread.proofs.Records.{on, stop, WholeGate, whole-gate, whole-output}
@@ -39,17 +39,17 @@ module _ (rest : List ℕ) (p : ℕ) (u : Session) (at i signals : ℕ) (few : u
         → read_outputs (p - (i + 1)) (i + 1) (with_output u i (get_or rest (at + 2) 0)) (drop (at + 3) rest) ≡ read_outputs (p - i) i u (drop at rest)
     output-next h z = on (output_record signals (drop at rest)) _ (output-there ∙ z) ∙ output-step h
 
-    pub output-refused : (r : Refusal) → i < p → a ≡ Refused r → load_refused r ≡ read_outputs (p - i) i u (drop at rest)
+    pub output-refused : (r : Refusal) → i < p → a ≡ Err r → Err r ≡ read_outputs (p - i) i u (drop at rest)
     output-refused r h z = stop (output_record signals (drop at rest)) r _ (output-there ∙ z) ∙ output-step h
 
-  pub outputs-more : p ≤ i → at < length rest → load_refused TrailingBytes ≡ read_outputs (p - i) i u (drop at rest)
+  pub outputs-more : p ≤ i → at < length rest → Err TrailingBytes ≡ read_outputs (p - i) i u (drop at rest)
   unfolding read_outputs
   outputs-more h l =
       let q : p - i ≡ 0 = omega arith in
       let k : 1 ≤ length (drop at rest) = simp length-drop (omega arith) in
       rw (q, le-leb 1 (length (drop at rest)) k)
 
-  pub outputs-done : p ≤ i → length rest ≤ at → load_done u ≡ read_outputs (p - i) i u (drop at rest)
+  pub outputs-done : p ≤ i → length rest ≤ at → Ok u ≡ read_outputs (p - i) i u (drop at rest)
   unfolding read_outputs
   outputs-done h l =
       let q : p - i ≡ 0 = omega arith in
@@ -91,7 +91,7 @@ module _ (rest : List ℕ) (m : ℕ) (u : Session) (at g n : ℕ) (same : u.n �
         → read_gates (m - (g + 1)) (g + 1) taken (drop (at + (3 + arity + size)) rest) ≡ read_gates (m - g) g u (drop at rest)
     gate-next h z = on (gate_record (n + g) (drop at rest)) _ (gate-there ∙ z) ∙ gate-step h (whole z).form
 
-    pub gate-refused : (r : Refusal) → g < m → a ≡ Refused r → load_refused r ≡ read_gates (m - g) g u (drop at rest)
+    pub gate-refused : (r : Refusal) → g < m → a ≡ Err r → Err r ≡ read_gates (m - g) g u (drop at rest)
     unfolding read_gates
     gate-refused r h z =
         let q : m - g ≡ suc (m - (g + 1)) = omega arith in

@@ -7,37 +7,24 @@ use native.Mathlib.Omega.{arith}
 use native.Mathlib.Decide.{dec_lt}
 use lib.Dec.{leb, ltb, eqb}
 use lib.ListN.{length}
-use borrow.Author.Tests.{lt-ltb, le-ltb, le-leb, lt-leb, eq-eqb, ne_eqb, eqb-true, ltb-true}
+use borrow.Author.Tests.{lt-ltb, le-ltb, le-leb, lt-leb, eq-eqb, ne_eqb, eqb-true}
 use denote.Enum.Declared.{tag_of}
 use Rattle.bits.proofs.Ranges.{and_l, and_r, by_cases}
+use Rattle.std.specs.Prelude.{Result, Ok, Err}
+use Rattle.network.specs.Answer.{Done}
 use Rattle.network.specs.declared.Refusal.{Refusal}
 use Rattle.network.specs.declared.Refusal.TheVariants.{Truncated, UnexpectedMark}
-use Rattle.network.specs.declared.Answer.TheVariants as answer
 use Rattle.network.specs.Tests.{refuse_if, mark, mark_test}
 use Rattle.network.proofs.TestLaws.{mark-i}
 use Rattle.netread.specs.declared.Kind.{Kind}
 use Rattle.netread.specs.contracts.Kind.{the_type}
-use Rattle.netread.specs.declared.Kind.TheVariants.{Header, Excluded, Gate, WideGate, Output, Refused}
+use Rattle.netread.specs.declared.Kind.TheVariants.{Header, Excluded, Gate, WideGate, Output}
 use Rattle.netread.specs.Kind.{marks, kind_in, kind_of, kind_at, not_due}
 
--- ## Kinds
-
-abbrev pub tag : Kind → ℕ
-tag k = tag_of the_type k
-
--- a kind of record, and no refusal, which is the last kind
-abbrev pub Record : Kind → Type 0
-Record k = tag k < tag (Refused Truncated)
-
-pub unexpected : (k : Kind) → ((r : Refusal) → k ≡ Refused r → ⊥) → UnexpectedMark ≡ not_due k
-unexpected Header h = refl
-unexpected Excluded h = refl
-unexpected Gate h = refl
-unexpected WideGate h = refl
-unexpected Output h = refl
-unexpected (Refused r) h = absurd (h r refl)
-
 -- ## The list of marks
+
+abbrev tag : Kind → ℕ
+tag k = tag_of the_type k
 
 -- the mark of the kind with tag t
 abbrev mark_in : List (ℕ × Kind) → ℕ → ℕ
@@ -47,51 +34,49 @@ mark_in (m ∷ ms) t = cond (eqb (tag m.1) t) m.0 (mark_in ms t)
 abbrev pub mark_of : Kind → ℕ
 mark_of k = mark_in marks (tag k)
 
--- the mark opens a record, whose kind has this mark
-abbrev fits : ℕ × Kind → Bool
-fits m = ltb (tag m.1) (tag (Refused Truncated)) && eqb (mark_of m.1) m.0
-
+-- each mark is the one of the kind that it opens
 abbrev all_fit : List (ℕ × Kind) → Bool
 all_fit [] = true
-all_fit (m ∷ ms) = fits m && all_fit ms
+all_fit (m ∷ ms) = eqb (mark_of m.1) m.0 && all_fit ms
 
-fitting : (m : ℕ × Kind) → fits m ≡ true → Record m.1 × (mark_of m.1 ≡ m.0)
-fitting m h =
-    let r = ltb (tag m.1) (tag (Refused Truncated)) in
-    let e = eqb (mark_of m.1) m.0 in
-    (ltb-true (tag m.1) (tag (Refused Truncated)) (and_l r e h), eqb-true (mark_of m.1) m.0 (and_r r e h))
-
--- each kind of record has a mark, which opens it
-own : (d : Kind) → Record d → kind_of (mark_of d) ≡ d
+-- each kind has a mark, which opens it
+own : (d : Kind) → kind_of (mark_of d) ≡ Ok d
 unfolding kind_of
-own Header h = refl
-own Excluded h = refl
-own Gate h = refl
-own WideGate h = refl
-own Output h = refl
-own (Refused r) h = let z : ⊥ = omega arith in absurd z
+own Header = refl
+own Excluded = refl
+own Gate = refl
+own WideGate = refl
+own Output = refl
+
+same-kind : (k d : Kind) → ◌≡◌ {A = Result Kind Refusal} (Ok k) (Ok d) → k ≡ d
+same-kind k d h = cc
+
+pub no-kind : {d : Kind} {r : Refusal} {k : Result Kind Refusal} → k ≡ Err r → k ≡ Ok d → ⊥
+no-kind e q = cc
+
+pub other-kind : {d x : Kind} {k : Result Kind Refusal} → k ≡ Ok x → (x ≡ d → ⊥) → k ≡ Ok d → ⊥
+other-kind {d} {x} q n s = n (same-kind x d (sym q ∙ s))
 
 module _ (x : ℕ) where
-  marked : (ms : List (ℕ × Kind)) → all_fit ms ≡ true → Record (kind_in ms x) → x ≡ mark_of (kind_in ms x)
-  marked [] s h = let z : ⊥ = omega arith in absurd z
-  marked (m ∷ ms) s h =
+  marked : (ms : List (ℕ × Kind)) → all_fit ms ≡ true → (d : Kind) → kind_in ms x ≡ Ok d → x ≡ mark_of d
+  marked [] s d h = absurd (no-kind refl h)
+  marked (m ∷ ms) s d h =
+      let fit = eqb (mark_of m.1) m.0 in
       by_cases (eqb x m.0)
-      (λ e. rw e (eqb-true x m.0 e ∙ sym (fitting m (and_l (fits m) (all_fit ms) s)).1))
-      (λ e. rw e (marked ms (and_r (fits m) (all_fit ms) s) (rw e at h)))
+      (λ e. rw (← same-kind m.1 d (rw e at h)) (eqb-true x m.0 e ∙ sym (eqb-true (mark_of m.1) m.0 (and_l fit (all_fit ms) s))))
+      (λ e. marked ms (and_r fit (all_fit ms) s) d (rw e at h))
 
-  mark-of : Record (kind_of x) → x ≡ mark_of (kind_of x)
+  mark-of : (d : Kind) → kind_of x ≡ Ok d → x ≡ mark_of d
   unfolding kind_of
-  mark-of h = marked marks refl h
+  mark-of d h = marked marks refl d h
 
-  refuse : (ms : List (ℕ × Kind)) → all_fit ms ≡ true → UnexpectedMark ≡ not_due (kind_in ms x)
-  refuse [] s = refl
-  refuse (m ∷ ms) s =
-      let l = (fitting m (and_l (fits m) (all_fit ms) s)).0 in
-      by_cases (eqb x m.0) (λ e. rw e (unexpected m.1 (λ r q. let z : Record (Refused r) = rw q at l in omega arith))) (λ e. rw e (refuse ms (and_r (fits m) (all_fit ms) s)))
+  refuse : (ms : List (ℕ × Kind)) → UnexpectedMark ≡ not_due (kind_in ms x)
+  refuse [] = refl
+  refuse (m ∷ ms) = by_cases (eqb x m.0) (λ e. rw e) (λ e. rw e (refuse ms))
 
   other : UnexpectedMark ≡ not_due (kind_of x)
   unfolding kind_of
-  other = refuse marks refl
+  other = refuse marks
 
   -- x is none of the marks, as a match on it says
   abbrev Missed : Type 0 → List (ℕ × Kind) → Type 0
@@ -102,21 +87,21 @@ module _ (x : ℕ) where
   earlier N [] h = h
   earlier N (m ∷ ms) h = (earlier (N × (x ≡ m.0 → ⊥)) ms h).0
 
-  no-mark : (N : Type 0) (ms : List (ℕ × Kind)) → Missed N ms → Refused UnexpectedMark ≡ kind_in ms x
+  no-mark : (N : Type 0) (ms : List (ℕ × Kind)) → Missed N ms → Err UnexpectedMark ≡ kind_in ms x
   no-mark N [] h = refl
   no-mark N (m ∷ ms) h =
       let M = N × (x ≡ m.0 → ⊥) in
       rw (ne_eqb x m.0 (earlier M ms h).1) (no-mark M ms h)
 
   -- a mark that opens no record
-  pub none : (N : Type 0) → Missed N marks → Refused UnexpectedMark ≡ kind_of x
+  pub none : (N : Type 0) → Missed N marks → Err UnexpectedMark ≡ kind_of x
   unfolding kind_of
   none N h = no-mark N marks h
 
 -- ## What is left
 
 module _ (rest : List ℕ) where
-  pub short : length rest < 2 → Refused Truncated ≡ kind_at rest
+  pub short : length rest < 2 → Err Truncated ≡ kind_at rest
   unfolding kind_at
   short h = rw (lt-ltb (length rest) 2 h)
 
@@ -128,45 +113,50 @@ module _ (rest : List ℕ) where
   pub by_key : (x r : ℕ) → r ≡ x → r ≡ mark rest → 2 ≤ length rest → kind_of x ≡ kind_at rest
   by_key x r k e h = ap kind_of (sym k ∙ e) ∙ long h
 
-  -- a kind that is no refusal has its mark
-  opens : (k : Kind) → k ≡ kind_at rest → Record k → (2 ≤ length rest) × (mark rest ≡ mark_of k)
-  opens k e h = go (dec_lt (length rest) 2)
+  -- a kind has its mark
+  opens : (d : Kind) → kind_at rest ≡ Ok d → (2 ≤ length rest) × (mark rest ≡ mark_of d)
+  opens d h = go (dec_lt (length rest) 2)
     where
-      go : Dec (length rest < 2) → (2 ≤ length rest) × (mark rest ≡ mark_of k)
-      go (yes l) =
-          let q : k ≡ Refused Truncated = e ∙ sym (short l) in
-          let z : Record (Refused Truncated) = rw q at h in
-          let y : ⊥ = omega arith in absurd y
-      go (no l) =
-          let q : k ≡ kind_of (mark rest) = e ∙ sym (long (omega arith)) in
-          (omega arith, rw q (mark-of (mark rest) (rw q at h)))
+      go : Dec (length rest < 2) → (2 ≤ length rest) × (mark rest ≡ mark_of d)
+      go (yes l) = absurd (no-kind (sym (short l)) h)
+      go (no l) = (omega arith, mark-of (mark rest) d (long (omega arith) ∙ h))
 
-  -- the kind that is due
-  module _ (k d : Kind) (e : k ≡ kind_at rest) (q : k ≡ d) (h : Record d) where
-    pub is-due : mark_test (mark_of d) rest ≡ answer.Done
-    is-due = let o = opens d (sym q ∙ e) h in mark-i (mark_of d) rest o.0 o.1
+  module _ (k : Result Kind Refusal) (d : Kind) (e : k ≡ kind_at rest) where
+    there : {x : Kind} → k ≡ Ok x → x ≡ d → (2 ≤ length rest) × (mark rest ≡ mark_of d)
+    there q s = opens d (sym e ∙ q ∙ ap (λ (x : Kind). Ok x) s)
 
-    pub is-marked : (leb 2 (length rest) && eqb (mark rest) (mark_of d)) ≡ true
-    is-marked = let o = opens d (sym q ∙ e) h in rw (le-leb 2 (length rest) o.0, eq-eqb (mark rest) (mark_of d) o.1)
+    -- the kind that is due
+    pub is-due : {x : Kind} → k ≡ Ok x → x ≡ d → mark_test (mark_of d) rest ≡ Done
+    is-due q s = let o = there q s in mark-i (mark_of d) rest o.0 o.1
 
-  -- another kind than the one that is due
-  module _ (k d : Kind) (e : k ≡ kind_at rest) (m : Record d) (h : k ≡ d → ⊥) where
-    differs : 2 ≤ length rest → mark rest ≡ mark_of d → ⊥
-    differs l s = h (e ∙ sym (long l) ∙ ap kind_of s ∙ own d m)
+    pub is-marked : {x : Kind} → k ≡ Ok x → x ≡ d → (leb 2 (length rest) && eqb (mark rest) (mark_of d)) ≡ true
+    is-marked q s = let o = there q s in rw (le-leb 2 (length rest) o.0, eq-eqb (mark rest) (mark_of d) o.1)
 
-    pub not-due : mark_test (mark_of d) rest ≡ answer.Refused (not_due k)
-    unfolding mark_test
-    not-due = go (dec_lt (length rest) 2)
-      where
-        go : Dec (length rest < 2) → cond (ltb (length rest) 2) (answer.Refused Truncated) (refuse_if (not (eqb (mark rest) (mark_of d))) UnexpectedMark) ≡ answer.Refused (not_due k)
-        go (yes l) = rw (e, ← short l, lt-ltb (length rest) 2 l)
-        go (no l) =
-            let q : k ≡ kind_of (mark rest) = e ∙ sym (long (omega arith)) in
-            rw (q, ← other (mark rest), le-ltb (length rest) 2 (omega arith), ne_eqb (mark rest) (mark_of d) (differs (omega arith)))
+    -- another kind than the one that is due, or none
+    module _ (h : k ≡ Ok d → ⊥) where
+      differs : 2 ≤ length rest → mark rest ≡ mark_of d → ⊥
+      differs l s = h (e ∙ sym (long l) ∙ ap kind_of s ∙ own d)
 
-    pub not-marked : (leb 2 (length rest) && eqb (mark rest) (mark_of d)) ≡ false
-    not-marked = go (dec_lt (length rest) 2)
-      where
-        go : Dec (length rest < 2) → (leb 2 (length rest) && eqb (mark rest) (mark_of d)) ≡ false
-        go (yes l) = rw (lt-leb 2 (length rest) l)
-        go (no l) = rw (le-leb 2 (length rest) (omega arith), ne_eqb (mark rest) (mark_of d) (differs (omega arith)))
+      pub not-due : {r : Refusal} → not_due k ≡ r → mark_test (mark_of d) rest ≡ Err r
+      unfolding mark_test
+      not-due q = rw (← q) (go (dec_lt (length rest) 2))
+        where
+          go : Dec (length rest < 2) → cond (ltb (length rest) 2) (Err Truncated) (refuse_if (not (eqb (mark rest) (mark_of d))) UnexpectedMark) ≡ Err (not_due k)
+          go (yes l) = rw (e, ← short l, lt-ltb (length rest) 2 l)
+          go (no l) =
+              let q : k ≡ kind_of (mark rest) = e ∙ sym (long (omega arith)) in
+              rw (q, ← other (mark rest), le-ltb (length rest) 2 (omega arith), ne_eqb (mark rest) (mark_of d) (differs (omega arith)))
+
+      pub not-marked : (leb 2 (length rest) && eqb (mark rest) (mark_of d)) ≡ false
+      not-marked = go (dec_lt (length rest) 2)
+        where
+          go : Dec (length rest < 2) → (leb 2 (length rest) && eqb (mark rest) (mark_of d)) ≡ false
+          go (yes l) = rw (lt-leb 2 (length rest) l)
+          go (no l) = rw (le-leb 2 (length rest) (omega arith), ne_eqb (mark rest) (mark_of d) (differs (omega arith)))
+
+    -- what the record is refused with
+    pub refused-due : {r : Refusal} → k ≡ Err r → mark_test (mark_of d) rest ≡ Err r
+    refused-due q = not-due (no-kind q) (ap not_due q)
+
+    pub other-due : {x : Kind} → k ≡ Ok x → (x ≡ d → ⊥) → mark_test (mark_of d) rest ≡ Err UnexpectedMark
+    other-due q n = not-due (other-kind q n) (ap not_due q)

@@ -10,14 +10,14 @@ use lib.Seq.{drop-drop}
 use borrow.Author.Tests.{lt-ltb, le-leb, lt-leb}
 use Rattle.bits.specs.Bounds.{most_inputs}
 use Rattle.bits.proofs.Ranges.{by_cases}
+use Rattle.std.specs.Prelude.{Result, Ok, Err}
+use Rattle.network.specs.Answer.{Answer, Done, onward}
+use Rattle.network.specs.declared.Session.{Session}
 use Rattle.network.specs.declared.Refusal.{Refusal}
 use Rattle.network.specs.declared.Refusal.TheVariants.{Truncated}
-use Rattle.network.specs.declared.Answer.{Answer}
-use Rattle.network.specs.declared.Answer.TheVariants.{Done, Refused}
-use Rattle.network.specs.declared.Loaded.{Loaded}
 use Rattle.network.specs.Bounds.{most_gates, most_outputs, most_fanins}
 use Rattle.network.specs.Tests.{first, length_test, mark, range_test, fanins_test, width_test}
-use Rattle.network.specs.Load.{little_endian, load_refused, onward, fanins_in, narrow, wide, form_of, gate_tests, gate_record, output_tests, output_record, header_tests, header_record}
+use Rattle.network.specs.Load.{little_endian, fanins_in, narrow, wide, form_of, gate_tests, gate_record, output_tests, output_record, header_tests, header_record}
 use Rattle.network.specs.Write.{form_for}
 use Rattle.network.proofs.TestLaws.{clear-e, short-e, short-i, count-e, range-e}
 use Rattle.network.proofs.Reached.{form-fine}
@@ -25,17 +25,17 @@ use Rattle.state.proofs.TestSteps.{or-last}
 use Rattle.netread.specs.declared.Kind.{Kind}
 use Rattle.netread.specs.declared.Kind.TheVariants.{Gate, WideGate}
 use Rattle.netread.specs.Kind.{kind_at, not_due, field_tests}
-use Rattle.netread.proofs.Marks.{is-due, not-due, is-marked, not-marked}
+use Rattle.netread.proofs.Marks.{other-kind, is-due, not-due, is-marked, not-marked}
 use Rattle.netread.proofs.Steps.{whole_part}
 
-pub short : (size : ℕ) (rest : List ℕ) → length rest < size → length_test size rest ≡ Refused Truncated
+pub short : (size : ℕ) (rest : List ℕ) → length rest < size → length_test size rest ≡ Err Truncated
 short size rest h = rw (lt-ltb (length rest) size h)
 
 -- go on, or stop
-pub on : (a : Answer) (l : Loaded) → a ≡ Done → l ≡ onward a l
+pub on : (a : Answer) (l : Result Session Refusal) → a ≡ Done → l ≡ onward a l
 on a l e = rw e
 
-pub stop : (a : Answer) (r : Refusal) (l : Loaded) → a ≡ Refused r → load_refused r ≡ onward a l
+pub stop : (a : Answer) (r : Refusal) (l : Result Session Refusal) → a ≡ Err r → Err r ≡ onward a l
 stop a r l e = rw e
 
 -- a number that passes is small
@@ -48,48 +48,38 @@ few least most x q k = (range-e least most x (sym q ∙ k)).1
 pub fanins-part : (rest : List ℕ) (k : ℕ) → take (3 + k - 3) (drop 3 rest) ≡ take k (drop 3 rest)
 fanins-part rest k = whole_part rest 3 k
 
-module _ (least most bytes limit : ℕ) (rest : List ℕ) where
-  pub fields_open : length rest < 3 → Refused Truncated ≡ first (field_tests least most bytes limit rest)
-  fields_open h = rw (short 3 rest h)
+module _ (least most bytes limit : ℕ) (rest : List ℕ) (l : 3 ≤ length rest)
+    (c : Answer) (f : c ≡ range_test least most (get_or rest 2 0)) (fine : c ≡ Done) (h : 3 + get_or rest 2 0 + bytes ≤ length rest)
+    (a : Answer) (e : a ≡ fanins_test limit (take (3 + get_or rest 2 0 - 3) (drop 3 rest))) where
+  long : length_test (get_or rest 2 0 + bytes) (drop 3 rest) ≡ Done
+  long = short-i (get_or rest 2 0 + bytes) (drop 3 rest) (simp length-drop (omega arith))
 
-  module _ (l : 3 ≤ length rest) (c : Answer) (f : c ≡ range_test least most (get_or rest 2 0)) where
-    pub fields-range : (r : Refusal) → c ≡ Refused r → c ≡ first (field_tests least most bytes limit rest)
-    fields-range r q = q ∙ rw (short-i 3 rest l, sym f ∙ q)
+  there : fanins_test limit (fanins_in rest) ≡ a
+  there = sym (rw fanins-part at e)
 
-    module _ (fine : c ≡ Done) where
-      pub fields-short : length rest < 3 + get_or rest 2 0 + bytes → Refused Truncated ≡ first (field_tests least most bytes limit rest)
-      fields-short h = rw (short-i 3 rest l, sym f ∙ fine, short (get_or rest 2 0 + bytes) (drop 3 rest) (simp length-drop (omega arith)))
+  pub fields-fanins : (r : Refusal) → a ≡ Err r → Err r ≡ first (field_tests least most bytes limit rest)
+  fields-fanins r q = rw (short-i 3 rest l, sym f ∙ fine, long, there ∙ q)
 
-      module _ (h : 3 + get_or rest 2 0 + bytes ≤ length rest) (a : Answer) (e : a ≡ fanins_test limit (take (3 + get_or rest 2 0 - 3) (drop 3 rest))) where
-        long : length_test (get_or rest 2 0 + bytes) (drop 3 rest) ≡ Done
-        long = short-i (get_or rest 2 0 + bytes) (drop 3 rest) (simp length-drop (omega arith))
-
-        there : fanins_test limit (fanins_in rest) ≡ a
-        there = sym (rw fanins-part at e)
-
-        pub fields-fanins : (r : Refusal) → a ≡ Refused r → a ≡ first (field_tests least most bytes limit rest)
-        fields-fanins r q = q ∙ rw (short-i 3 rest l, sym f ∙ fine, long, there ∙ q)
-
-        pub fields-table : a ≡ Done
-            → width_test (2 ^ get_or rest 2 0) (little_endian (take bytes (drop (3 + get_or rest 2 0) rest))) ≡ first (field_tests least most bytes limit rest)
-        fields-table q = rw (short-i 3 rest l, sym f ∙ fine, long, there ∙ q, drop-drop (get_or rest 2 0) 3 rest) (or-last _ refl)
+  pub fields-table : a ≡ Done
+      → width_test (2 ^ get_or rest 2 0) (little_endian (take bytes (drop (3 + get_or rest 2 0) rest))) ≡ first (field_tests least most bytes limit rest)
+  fields-table q = rw (short-i 3 rest l, sym f ∙ fine, long, there ∙ q, drop-drop (get_or rest 2 0) 3 rest) (or-last _ refl)
 
 -- ## The form of a gate record, by its kind
 
-module _ (limit : ℕ) (rest : List ℕ) (k : Kind) (e : k ≡ kind_at rest) where
-  pub narrow-record : k ≡ Gate → first (drop 1 (gate_tests narrow limit rest)) ≡ gate_record limit rest
+module _ (limit : ℕ) (rest : List ℕ) (k : Result Kind Refusal) (e : k ≡ kind_at rest) where
+  pub narrow-record : {x : Kind} → k ≡ Ok x → x ≡ Gate → first (drop 1 (gate_tests narrow limit rest)) ≡ gate_record limit rest
   unfolding gate_record
-  narrow-record q =
-      let other : k ≡ WideGate → ⊥ = λ s. let t : Gate ≡ WideGate = sym q ∙ s in cc in
-      rw (not-marked rest k WideGate e (omega arith) other, is-due rest k Gate e q (omega arith))
+  narrow-record q s =
+      let other : Gate ≡ WideGate → ⊥ = λ z. cc in
+      rw (not-marked rest k WideGate e (other-kind q (rw s other)), is-due rest k Gate e q s)
 
-  pub wide-record : k ≡ WideGate → first (drop 1 (gate_tests wide limit rest)) ≡ gate_record limit rest
+  pub wide-record : {x : Kind} → k ≡ Ok x → x ≡ WideGate → first (drop 1 (gate_tests wide limit rest)) ≡ gate_record limit rest
   unfolding gate_record
-  wide-record q = rw (is-marked rest k WideGate e q (omega arith), is-due rest k WideGate e q (omega arith))
+  wide-record q s = rw (is-marked rest k WideGate e q s, is-due rest k WideGate e q s)
 
-  pub no-gate : (k ≡ Gate → ⊥) → (k ≡ WideGate → ⊥) → Refused (not_due k) ≡ gate_record limit rest
+  pub no-gate : {r : Refusal} → not_due k ≡ r → (k ≡ Ok Gate → ⊥) → (k ≡ Ok WideGate → ⊥) → Err r ≡ gate_record limit rest
   unfolding gate_record
-  no-gate a b = rw (not-marked rest k WideGate e (omega arith) b, not-due rest k Gate e (omega arith) a)
+  no-gate q a b = rw (not-marked rest k WideGate e b, not-due rest k Gate e a q)
 
 -- ## Records that pass
 

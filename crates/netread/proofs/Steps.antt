@@ -1,12 +1,14 @@
 -- The steps of the reader's loops, over plain lists. Assumes nothing.
-use mathlib.Core.Path.{◌≡◌, sym, ◌∙◌}
+use mathlib.Core.Path.{◌≡◌}
 use mathlib.Core.List.{List, [], ◌∷◌, ◌++◌, append_assoc, append-nil}
 use Prim.Native.Nat.{ℕ, suc, ◌+◌, ◌*◌, ◌-◌, ◌^◌, ◌≤◌, ◌<◌}
 use native.Mathlib.Numerals.{add-one}
 use native.Mathlib.Nat.{pow-suc, pow-le-pow_right}
 use native.Mathlib.Omega.{arith}
-use lib.ListN.{length, get_or, take, drop, set, length-drop, drop_of_length-le}
+use lib.ListN.{length, get_or, take, drop, set, length-drop}
 use lib.Seq.{sets, drop-cons, drop-drop, take_all, take-suc-set}
+use borrow.Rule.Slice.PartMut.{put_mid}
+use Rattle.std.proofs.lemmas.List.Edits.{sets-eq}
 use Rattle.network.specs.Bounds.{excluded_words}
 use Rattle.network.specs.Load.{little_endian, words_from}
 
@@ -14,16 +16,16 @@ use Rattle.network.specs.Load.{little_endian, words_from}
 pub tail-part : (rest : List ℕ) (at : ℕ) → take (length rest - at) (drop at rest) ≡ drop at rest
 tail-part rest at = take_all (length rest - at) (drop at rest) (simp length-drop (omega arith))
 
+-- a part of `size` bytes
+pub whole_part : (bs : List ℕ) (at size : ℕ) → take (at + size - at) (drop at bs) ≡ take size (drop at bs)
+whole_part bs at size = let n : at + size - at ≡ size = omega arith in rw n
+
 -- ## A run of bytes stored in place
 
-pub sets-step : (a fs : List ℕ) (at j : ℕ) → j < length fs
-    → sets (set a (at + j) (get_or fs j 0)) (at + (j + 1)) (drop (j + 1) fs) ≡ sets a (at + j) (drop j fs)
-sets-step a fs at j l =
-    let q : at + (j + 1) ≡ suc (at + j) = omega arith in
-    rw (drop-cons fs j 0 l, q, add-one)
-
-pub sets-done : (a fs : List ℕ) (at j : ℕ) → length fs ≤ j → a ≡ sets a (at + j) (drop j fs)
-sets-done a fs at j l = rw (drop_of_length-le fs {i = j} l)
+pub sets-there : (a fs : List ℕ) (at : ℕ) → at + length fs ≤ length a → put_mid at (at + length fs - at) a fs ≡ sets a at fs
+sets-there a fs at h =
+    let n : at + length fs - at ≡ length fs = omega arith in
+    rw (sets-eq fs a at h, append_assoc (take at a) fs (drop (at + length fs) a), n, drop-drop (length fs) at a)
 
 -- ## The bytes of a word, from the last to the first
 
@@ -40,17 +42,6 @@ pub word_more : (w b d : ℕ) → w < 256 ^ d → b < 256 → b + 256 * w < 256 
 word_more w b d h l = rw (add-one, pow-suc) (omega arith)
 
 -- ## The words of the excluded set
-
-module _ (bs : List ℕ) (at : ℕ) where
-  pub none_left : length bs ≤ at → 0 ≡ little_endian (take 8 (drop at bs))
-  none_left h = rw (drop_of_length-le bs {i = at} h)
-
-  pub few-left : length bs - at < 8 → take (length bs - at) (drop at bs) ≡ take 8 (drop at bs)
-  few-left h = tail-part bs at ∙ sym (take_all 8 (drop at bs) (simp length-drop (omega arith)))
-
--- a part of `size` bytes
-pub whole_part : (bs : List ℕ) (at size : ℕ) → take (at + size - at) (drop at bs) ≡ take size (drop at bs)
-whole_part bs at size = let n : at + size - at ≡ size = omega arith in rw n
 
 pub words_step : (ws bs : List ℕ) (i x : ℕ) → i < excluded_words → length ws ≡ excluded_words → x ≡ little_endian (take 8 (drop (8 * i) bs))
     → take (i + 1) (set ws i x) ++ words_from (excluded_words - (i + 1)) (drop (8 * (i + 1)) bs) ≡ take i ws ++ words_from (excluded_words - i) (drop (8 * i) bs)

@@ -9,23 +9,22 @@ ghost use Rattle.network.specs.Tests.{first};
 ghost use Rattle.network.specs.Tests as tests;
 ghost use Rattle.network.specs.Load.{little_endian, is_excluded, header_record, gate_record, output_record, words_from, read_outputs, read_gates, read_body, read_of};
 ghost use Rattle.network.specs.Write.{form_for};
-ghost use Rattle.netread.specs.Kind.{kind_at, not_due, field_tests};
+ghost use Rattle.netread.specs.Kind.{kind_at, field_tests};
 
 use bits::GATE_PLACES;
 use network::{
-    Answer, EXCLUDED_WORDS, FANIN_PLACES, Loaded, MOST_FANINS, NARROW_BYTES, NARROW_LEAST,
-    NARROW_MOST, Refusal, Session, WIDE_BYTES, WIDE_LEAST,
+    EXCLUDED_WORDS, FANIN_PLACES, MOST_FANINS, NARROW_BYTES, NARROW_LEAST, NARROW_MOST, Refusal,
+    Session, WIDE_BYTES, WIDE_LEAST,
 };
 
-// What opens the bytes that are left: a record of a kind, or a refusal.
-#[derive(Drop)]
+// A kind of record, by the mark that opens it.
+#[derive(Clone, Copy, PartialEq, Eq)]
 pub enum Kind {
     Header,
     Excluded,
     Gate,
     WideGate,
     Output,
-    Refused(Refusal),
 }
 
 // A byte as a word.
@@ -43,30 +42,20 @@ fn mark(rest: &[u8]) -> u64
     wide(rest[0]) * 256 + wide(rest[1])
 }
 
-// The kind of the record that opens what is left: 1 where under two bytes are left, 2 for a mark that opens none.
-fn kind_at(rest: &[u8]) -> Kind
+// The kind of the record that opens what is left: refusal 1 where under two bytes are left, 2 for a mark that opens none.
+fn kind_at(rest: &[u8]) -> Result<Kind, Refusal>
     ensures { result ≡ kind_at rest.now }
 {
     if rest.len() < 2 {
-        return Kind::Refused(Refusal::Truncated);
+        return Err(Refusal::Truncated);
     }
     match mark(rest) {
-        0x4E49 => Kind::Header,
-        0x4E58 => Kind::Excluded,
-        0x4E47 => Kind::Gate,
-        0x4E48 => Kind::WideGate,
-        0x4E4F => Kind::Output,
-        _ => Kind::Refused(Refusal::UnexpectedMark),
-    }
-}
-
-// Why a record of a kind that is not due is refused.
-fn not_due(k: Kind) -> Refusal
-    ensures { result ≡ not_due k }
-{
-    match k {
-        Kind::Refused(r) => r,
-        _ => Refusal::UnexpectedMark,
+        0x4E49 => Ok(Kind::Header),
+        0x4E58 => Ok(Kind::Excluded),
+        0x4E47 => Ok(Kind::Gate),
+        0x4E48 => Ok(Kind::WideGate),
+        0x4E4F => Ok(Kind::Output),
+        _ => Err(Refusal::UnexpectedMark),
     }
 }
 
@@ -75,13 +64,9 @@ fn word(bs: &[u8]) -> u64
     requires { length bs.now ≤ 8 }
     ensures { result ≡ little_endian bs.now }
 {
-    let n = bs.len();
     let mut w: u64 = 0;
-    let mut i: usize = 0;
-    while i < n {
-        let j = n - 1 - i;
+    for j in (0..bs.len()).rev() {
         w = wide(bs[j]) + 256 * w;
-        i += 1;
     }
     w
 }
@@ -124,74 +109,69 @@ fn words(bs: &[u8]) -> [u64; EXCLUDED_WORDS]
     ensures { result ≡ words_from excluded_words bs.now }
 {
     let mut ws = [0u64; EXCLUDED_WORDS];
-    let mut i: usize = 0;
-    while i < EXCLUDED_WORDS {
+    for i in 0..EXCLUDED_WORDS {
         ws[i] = word_at(bs, 8 * i);
-        i += 1;
     }
     ws
 }
 
 // The tests of the first record: mark, length, counts.
-fn header_record(rest: &[u8]) -> Answer
+fn header_record(rest: &[u8]) -> Result<(), Refusal>
     ensures { result ≡ header_record rest.now }
 {
-    let kind = kind_at(rest);
-    let Kind::Header = kind else {
-        return Answer::Refused(not_due(kind));
+    let Kind::Header = kind_at(rest)? else {
+        return Err(Refusal::UnexpectedMark);
     };
     if rest.len() < 5 {
-        return Answer::Refused(Refusal::Truncated);
+        return Err(Refusal::Truncated);
     }
     state::counts_test(rest[2], rest[3], rest[4])
 }
 
 // The tests of a gate record behind its mark: length up to k, k, the rest of the length, fan-ins, table.
-fn gate_fields(rest: &[u8], limit: u8, least: usize, most: usize, bytes: usize) -> Answer
+fn gate_fields(
+    rest: &[u8],
+    limit: u8,
+    least: usize,
+    most: usize,
+    bytes: usize,
+) -> Result<(), Refusal>
     requires { (most ≤ most_fanins) × (bytes ≤ 8) }
     ensures { result ≡ first (field_tests least most bytes limit rest.now) }
 {
     if rest.len() < 3 {
-        return Answer::Refused(Refusal::Truncated);
+        return Err(Refusal::Truncated);
     }
     let k = rest[2];
-    let a = state::range_test(least, most, k);
-    if let Answer::Refused(_) = a {
-        return a;
-    }
+    state::range_test(least, most, k)?;
     let e = 3 + (k as usize);
     if rest.len() < e + bytes {
-        return Answer::Refused(Refusal::Truncated);
+        return Err(Refusal::Truncated);
     }
-    let b = state::fanins_test(&rest[3..e], limit);
-    if let Answer::Refused(_) = b {
-        return b;
-    }
+    state::fanins_test(&rest[3..e], limit)?;
     state::table_test(k, table(rest, e, bytes))
 }
 
 // The tests of a gate record: the mark decides its form.
-fn gate_record(rest: &[u8], limit: u8) -> Answer
+fn gate_record(rest: &[u8], limit: u8) -> Result<(), Refusal>
     ensures { result ≡ gate_record limit rest.now }
 {
-    let kind = kind_at(rest);
-    match kind {
+    match kind_at(rest)? {
         Kind::Gate => gate_fields(rest, limit, NARROW_LEAST, NARROW_MOST, NARROW_BYTES),
         Kind::WideGate => gate_fields(rest, limit, WIDE_LEAST, MOST_FANINS, WIDE_BYTES),
-        _ => Answer::Refused(not_due(kind)),
+        Kind::Header | Kind::Excluded | Kind::Output => Err(Refusal::UnexpectedMark),
     }
 }
 
 // The tests of an output record: mark, length, signal.
-fn output_record(rest: &[u8], signals: u8) -> Answer
+fn output_record(rest: &[u8], signals: u8) -> Result<(), Refusal>
     ensures { result ≡ output_record signals rest.now }
 {
-    let kind = kind_at(rest);
-    let Kind::Output = kind else {
-        return Answer::Refused(not_due(kind));
+    let Kind::Output = kind_at(rest)? else {
+        return Err(Refusal::UnexpectedMark);
     };
     if rest.len() < 3 {
-        return Answer::Refused(Refusal::Truncated);
+        return Err(Refusal::Truncated);
     }
     state::output_test(signals, rest[2])
 }
@@ -202,16 +182,12 @@ fn put_fanins(fanins: [u8; FANIN_PLACES], at: usize, fs: &[u8]) -> [u8; FANIN_PL
     ensures { result ≡ sets fanins at fs.now }
 {
     let mut a = fanins;
-    let mut j: usize = 0;
-    while j < fs.len() {
-        a[at + j] = fs[j];
-        j += 1;
-    }
+    a[at..at + fs.len()].copy_from_slice(fs);
     a
 }
 
 // The outputs, and nothing after them.
-fn outputs(t: Session, rest: &[u8]) -> Loaded
+fn outputs(t: Session, rest: &[u8]) -> Result<Session, Refusal>
     requires { (t.n ≤ most_inputs) × (t.m ≤ most_gates) × (t.p ≤ most_outputs) }
     ensures { result ≡ read_outputs t.p 0 t rest.now }
 {
@@ -219,28 +195,20 @@ fn outputs(t: Session, rest: &[u8]) -> Loaded
     let p = t.p as usize;
     let mut u = t;
     let mut at: usize = 0;
-    let mut i: usize = 0;
-    while i < p {
-        let a = output_record(&rest[at..], signals);
-        if let Answer::Refused(r) = a {
-            return network::refused(r);
-        }
+    for i in 0..p {
+        output_record(&rest[at..], signals)?;
         let x = at + 2;
         u.outputs[i] = rest[x];
         at += 3;
-        i += 1;
     }
     if at < rest.len() {
-        return network::refused(Refusal::TrailingBytes);
+        return Err(Refusal::TrailingBytes);
     }
-    Loaded {
-        answer: Answer::Done,
-        session: u,
-    }
+    Ok(u)
 }
 
 // The gates, then the outputs.
-fn gates(t: Session, rest: &[u8]) -> Loaded
+fn gates(t: Session, rest: &[u8]) -> Result<Session, Refusal>
     requires { (t.n ≤ most_inputs) × (t.m ≤ most_gates) × (t.p ≤ most_outputs) }
     ensures { result ≡ read_gates t.m 0 t rest.now }
 {
@@ -248,13 +216,9 @@ fn gates(t: Session, rest: &[u8]) -> Loaded
     let m = t.m;
     let mut u = t;
     let mut at: usize = 0;
-    let mut g: u8 = 0;
-    while g < m {
+    for g in 0..m {
         let part = &rest[at..];
-        let a = gate_record(part, n + g);
-        if let Answer::Refused(r) = a {
-            return network::refused(r);
-        }
+        gate_record(part, n + g)?;
         let i = g as usize;
         let k = part[2];
         let e = 3 + (k as usize);
@@ -267,51 +231,43 @@ fn gates(t: Session, rest: &[u8]) -> Loaded
         u.loaded[i] = w;
         u.current[i] = w;
         at += e + z;
-        g += 1;
     }
     outputs(u, &rest[at..])
 }
 
 // The excluded set, then the gates.
-fn excluded(t: Session, rest: &[u8]) -> Loaded
+fn excluded(t: Session, rest: &[u8]) -> Result<Session, Refusal>
     requires { (t.n ≤ most_inputs) × (t.m ≤ most_gates) × (t.p ≤ most_outputs) × (is_excluded rest.now ≡ true) }
     ensures { result ≡ read_body t rest.now }
 {
     let n = t.n;
     let e = 2 + network::set_bytes(n);
     if rest.len() < e {
-        return network::refused(Refusal::Truncated);
+        return Err(Refusal::Truncated);
     }
     let ws = words(&rest[2..e]);
-    let a = state::excluded_test(n, ws);
-    if let Answer::Refused(r) = a {
-        return network::refused(r);
-    }
+    state::excluded_test(n, ws)?;
     let mut u = t;
     u.excluded = ws;
     gates(u, &rest[e..])
 }
 
 // What follows the first record.
-fn body(t: Session, rest: &[u8]) -> Loaded
+fn body(t: Session, rest: &[u8]) -> Result<Session, Refusal>
     requires { (t.n ≤ most_inputs) × (t.m ≤ most_gates) × (t.p ≤ most_outputs) }
     ensures { result ≡ read_body t rest.now }
 {
-    let kind = kind_at(rest);
-    match kind {
-        Kind::Excluded => excluded(t, rest),
+    match kind_at(rest) {
+        Ok(Kind::Excluded) => excluded(t, rest),
         _ => gates(t, rest),
     }
 }
 
 // Any bytes: the network that they hold, with no open tables yet, or the refusal.
-pub fn read(bytes: &[u8]) -> Loaded
+pub fn read(bytes: &[u8]) -> Result<Session, Refusal>
     ensures { result ≡ read_of bytes.now }
 {
-    let a = header_record(bytes);
-    if let Answer::Refused(r) = a {
-        return network::refused(r);
-    }
+    header_record(bytes)?;
     let t = network::started(bytes[2], bytes[3], bytes[4]);
     body(t, &bytes[5..])
 }
