@@ -11,7 +11,6 @@ use borrow.Author.Tests.{le-leb, lt-leb}
 use Rattle.bits.specs.Bounds.{gate_places}
 use Rattle.std.specs.Prelude.{Result, Ok, Err}
 use Rattle.network.specs.Answer.{Answer, Done, answer_of, giving}
-use Rattle.network.specs.Load.{session_of}
 use Rattle.network.specs.declared.Refusal.{Refusal}
 use Rattle.network.specs.declared.Refusal.TheVariants.{OutsideSubset}
 use Rattle.network.specs.declared.Session.{Session}

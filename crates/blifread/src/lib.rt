@@ -88,7 +88,14 @@ fn with_block(
 }
 
 // The same where the line passes its tests.
-fn gate(t: Session, text: &[u8], starts: &[usize], ends: &[usize], s: &[u8], at: usize) -> Result<Session, Refusal>
+fn gate(
+    t: Session,
+    text: &[u8],
+    starts: &[usize],
+    ends: &[usize],
+    s: &[u8],
+    at: usize,
+) -> Result<Session, Refusal>
     requires { Named text.now starts.now ends.now × (at ≤ length s.now) × (length starts.now ≤ most_signals) × (t.m ≤ most_gates) }
     ensures { result ≡ gate_of (names_at text.now starts.now ends.now) t (fields (drop at s.now)) }
 {
@@ -174,7 +181,14 @@ fn finish(
 }
 
 // The same by the line's place and those of the signals' names.
-fn end(text: &[u8], l: Line, t: Session, ns: Names, outs: &[usize], stops: &[usize]) -> Result<Session, Refusal>
+fn end(
+    text: &[u8],
+    l: Line,
+    t: Session,
+    ns: Names,
+    outs: &[usize],
+    stops: &[usize],
+) -> Result<Session, Refusal>
     requires { LineIn text.now l × Fits text.now t ns × Named text.now outs.now stops.now × (length outs.now ≤ most_outputs) }
     ensures { result ≡ end_of (signals_at text.now t ns) (names_at text.now outs.now stops.now) t (words_at text.now l) (statements (drop l.next text.now)) }
 {
@@ -195,7 +209,14 @@ fn end(text: &[u8], l: Line, t: Session, ns: Names, outs: &[usize], stops: &[usi
 }
 
 // Blocks, then `.end`.
-fn blocks(text: &[u8], at: usize, t: Session, ins: Names, outs: &[usize], stops: &[usize]) -> Result<Session, Refusal>
+fn blocks(
+    text: &[u8],
+    at: usize,
+    t: Session,
+    ins: Names,
+    outs: &[usize],
+    stops: &[usize],
+) -> Result<Session, Refusal>
     requires { (at ≤ length text.now) × (t.m ≡ 0) × Fits text.now t ins × Named text.now outs.now stops.now × (length outs.now ≤ most_outputs) }
     ensures { result ≡ read_blocks (draft_of (signals_at text.now t ins) (names_at text.now outs.now stops.now) t [] 0) (statements (drop at text.now)) }
 {

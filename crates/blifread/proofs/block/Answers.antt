@@ -10,13 +10,13 @@ use Rattle.blifread.proofs.block.Goals as goal
 pub returns-in_err-x : goal.returns-in_err-x
 returns-in_err-x c =
     let a = c.args in
-    block_refused a.text.now a.l a.t a.ns c.requires.1 c.requires.0 c.gate-x.result c.gate-x.ensures _ c.in_err-x.was (handed-on c.from_residual.ensures.1 refl)
+    block_refused a.text.now a.l a.t a.ns c.requires.1 c.requires.0 c.gate.result c.gate.ensures _ c.in_err-x.was (handed-on c.from_residual.ensures.1 refl)
 
 pub rows-y-requires : goal.rows-y-requires
 rows-y-requires c =
     let a = c.args in
     let h : length a.t.arity ≡ most_gates = search (rules, c.well_formed.1.1.0.1.1.1.1.1.1.0) in
-    (c.requires.0.inside, arity-few a.text.now a.l a.t a.ns c.requires.1 c.requires.0 c.gate-x.result c.gate-x.ensures c.in_ok-x.was h)
+    (c.requires.0.inside, arity-few a.text.now a.l a.t a.ns c.requires.1 c.requires.0 c.gate.result c.gate.ensures c.in_ok-x.was h)
 
 pub returns : goal.returns
 returns c =
@@ -25,4 +25,4 @@ returns c =
     let m = c.with_name-more in
     let hs : length a.ns.starts ≡ most_signals = search (rules, c.well_formed.1.1.1.0) in
     let he : length a.ns.ends ≡ most_signals = search (rules, c.well_formed.1.1.1.0.1.1.1.0) in
-    block-done a.text.now a.l a.t a.ns c.requires.1 c.requires.0 c.gate-x.result c.gate-x.ensures c.in_ok-x.was hs he o.result m.result c.rows-y.result o.ensures m.ensures c.rows-y.ensures
+    block-done a.text.now a.l a.t a.ns c.requires.1 c.requires.0 c.gate.result c.gate.ensures c.in_ok-x.was hs he o.result m.result c.rows-y.result o.ensures m.ensures c.rows-y.ensures

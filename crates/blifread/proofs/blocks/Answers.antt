@@ -45,7 +45,7 @@ returns-in_err-b c =
     let n = c.line_from in
     let l = c.in-Some.l in
     let lo = c.in-Some.ensures in
-    let b = c.block-b in
+    let b = c.block in
     handed-on c.from_residual.ensures.1 (turn-refused text os h.u h.ns h.i due h.invariant l lo.reads (sym c.opens.ensures ∙ c.if-opens.false)
     (sym c.opens-in-Some.ensures ∙ c.if-not-opens.false) b.result b.ensures _ c.in_err-b.was)
 
@@ -59,7 +59,7 @@ loop-l-preserved c =
     let n = c.line_from in
     let l = c.in-Some.l in
     let lo = c.in-Some.ensures in
-    let b = c.block-b in
+    let b = c.block in
     turn-block text os h.u h.ns h.i due h.invariant l lo.reads (sym c.opens.ensures ∙ c.if-opens.false)
     (sym c.opens-in-Some.ensures ∙ c.if-not-opens.false) b.result b.ensures _ c.in_ok-b.was
 
