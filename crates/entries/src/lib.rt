@@ -1,7 +1,7 @@
 // Simulation: the entries of a gate that the patterns of a word give or deliver.
 #![tactic(auto)]
 
-ghost use Rattle.std.specs.Prelude.{◌≡◌, ◌&&◌, ℕ, ◌^◌, ◌<◌, ◌≤◌, eqb, get_or};
+ghost use Rattle.std.specs.Prelude.{◌≡◌, ◌&&◌, ℕ, ◌+◌, ◌^◌, ◌<◌, ◌≤◌, eqb, get_or};
 ghost use Rattle.std.specs.Int.Bits.{bit_or};
 ghost use Rattle.bits.specs.Bounds.{small_fanins};
 ghost use Rattle.bits.specs.Range.{any};
@@ -20,35 +20,51 @@ fn delivered(k: usize, ins: &[u64; GATE_PLACES], frees: &[u64; GATE_PLACES], kee
     let n = entry_count(k) as usize;
     let words = bits::minterms(k, ins, frees, keep);
     let mut acc: u64 = 0;
-    let mut t = 0;
-    while t < n {
+    for t in 0..n {
         let b = bits::any_bit(words[t]);
         acc = bits::with_entry(acc, t as u64, b);
-        t += 1;
     }
     acc
 }
 
-// The same of five fan-ins, and of six, by halves: the entries with the last one 0, then those with it 1, each from the places of keep that
-// have it so.
+// The same of one fan-in more, the one at place `last`, by halves: the entries with it 0, then those with it 1, each from the places of keep
+// that have it so.
+fn by_halves<F: Fn(u64) -> u64>(
+    last: usize,
+    ins: &[u64; GATE_PLACES],
+    frees: &[u64; GATE_PLACES],
+    keep: u64,
+    half: F,
+) -> u64
+    requires last_lt_most_fanins { last < most_fanins }
+    requires half_pre { (part : ℕ) → part < 2 ^ 64 → F.pre half part }
+    requires half_post { (part r : ℕ) → part < 2 ^ 64 → F.post half part r → r ≡ delivered_by last ins.now frees.now part }
+    ensures { result ≡ delivered_by (last + 1) ins.now frees.now keep }
+{
+    let value = ins[last];
+    let free = frees[last];
+    let low = half(keep & (free | bits::complement(value)));
+    let high = half(keep & (free | value));
+    low + (high << entry_count(last))
+}
+
+// Of five fan-ins, and of six.
 fn delivered5(ins: [u64; GATE_PLACES], frees: [u64; GATE_PLACES], keep: u64) -> u64
     ensures { result ≡ delivered_by 5 ins frees keep }
 {
-    let value = ins[4];
-    let free = frees[4];
-    let low = delivered(4, &ins, &frees, keep & (free | bits::complement(value)));
-    let high = delivered(4, &ins, &frees, keep & (free | value));
-    low + (high << 16)
+    by_halves(
+        4,
+        &ins,
+        &frees,
+        keep,
+        |part| delivered(4, &ins, &frees, part),
+    )
 }
 
 fn delivered6(ins: [u64; GATE_PLACES], frees: [u64; GATE_PLACES], keep: u64) -> u64
     ensures { result ≡ delivered_by 6 ins frees keep }
 {
-    let value = ins[5];
-    let free = frees[5];
-    let low = delivered5(ins, frees, keep & (free | bits::complement(value)));
-    let high = delivered5(ins, frees, keep & (free | value));
-    low + (high << 32)
+    by_halves(5, &ins, &frees, keep, |part| delivered5(ins, frees, part))
 }
 
 // Of the entries given, those whose two words share a place: entry t's words are low[t % 8] and high[t / 8].
@@ -97,8 +113,10 @@ fn missing(
     found | tested(&low, &high, bits::complement_within(entry_count(k), found))
 }
 
-// The entries found and those that some place of keep delivers. A call for each arity, as above.
-pub fn reach(
+// The entries found and those that some place of keep delivers. A call for each arity, as above; inlined, so that the words of free fan-ins
+// cost nothing where they are known to be 0.
+#[inline(always)]
+fn with_delivered(
     k: usize,
     ins: &[u64; GATE_PLACES],
     frees: &[u64; GATE_PLACES],
@@ -106,7 +124,7 @@ pub fn reach(
     found: u64,
 ) -> u64
     requires { (1 ≤ k) × (k ≤ most_fanins) × (found < 2 ^ 2 ^ k) }
-    ensures { result ≡ bit_or found (table_of (2 ^ k) (λ t. any 64 (λ b. bit keep b && agree k (entry_at k frees.now b) (entry_at k ins.now b) t))) }
+    ensures { result ≡ bit_or found (delivered_by k ins.now frees.now keep) }
 {
     if k == 1 {
         return found | delivered(1, ins, frees, keep);
@@ -129,31 +147,27 @@ pub fn reach(
     delivered6(*ins, *frees, keep)
 }
 
+// The entries found and those that some place of keep delivers.
+pub fn reach(
+    k: usize,
+    ins: &[u64; GATE_PLACES],
+    frees: &[u64; GATE_PLACES],
+    keep: u64,
+    found: u64,
+) -> u64
+    requires { (1 ≤ k) × (k ≤ most_fanins) × (found < 2 ^ 2 ^ k) }
+    ensures { result ≡ bit_or found (table_of (2 ^ k) (λ t. any 64 (λ b. bit keep b && agree k (entry_at k frees.now b) (entry_at k ins.now b) t))) }
+{
+    with_delivered(k, ins, frees, keep, found)
+}
+
 // The entries found and those that the values of some place of keep are: no fan-in is free.
 pub fn meets(k: usize, ins: &[u64; GATE_PLACES], keep: u64, found: u64) -> u64
     requires { (1 ≤ k) × (k ≤ most_fanins) × (found < 2 ^ 2 ^ k) }
     ensures { result ≡ bit_or found (table_of (2 ^ k) (λ t. any 64 (λ b. bit keep b && eqb (entry_at k ins.now b) t))) }
 {
     let held = [0u64; GATE_PLACES];
-    if k == 1 {
-        return found | delivered(1, ins, &held, keep);
-    }
-    if k == 2 {
-        return found | delivered(2, ins, &held, keep);
-    }
-    if k == 3 {
-        return found | delivered(3, ins, &held, keep);
-    }
-    if k == 4 {
-        return found | delivered(4, ins, &held, keep);
-    }
-    if found != 0 {
-        return missing(k, *ins, held, keep, found);
-    }
-    if k == 5 {
-        return delivered5(*ins, held, keep);
-    }
-    delivered6(*ins, held, keep)
+    with_delivered(k, ins, &held, keep, found)
 }
 
 // How many entries a gate of k fan-ins has.

@@ -23,11 +23,9 @@ fn fanin_mask(arity: &[u8; MOST_GATES], fanins: &[u8; FANIN_PLACES], g: usize) -
 {
     let k = network::place(arity[g]);
     let mut mask: u64 = 0;
-    let mut r = 0;
-    while r < k {
+    for r in 0..k {
         let f = simulate::fanin(fanins, g, r);
         mask = mask | bits::power(f as u64);
-        r += 1;
     }
     mask
 }
@@ -43,10 +41,8 @@ pub fn fanin_masks(
     ensures { Masked arity.now fanins.now result m }
 {
     let mut l = [0u64; MOST_GATES];
-    let mut g = 0;
-    while g < m {
+    for g in 0..m {
         l[g] = fanin_mask(arity, fanins, g);
-        g += 1;
     }
     l
 }
@@ -56,12 +52,10 @@ fn same_row(rows: &[u64; SIGNAL_WORDS], s: usize, row: &[u64; ROW_WORDS], count:
     requires { (s < most_signals) × (count ≤ row_words) }
     ensures { result ≡ true → (w : ℕ) → w < count → get_or row.now w 0 ≡ get_or (words_at rows.now w) s 0 }
 {
-    let mut w = 0;
-    while w < count {
+    for w in 0..count {
         if row[w] != rows[ROW_WORDS * s + w] {
             return false;
         }
-        w += 1;
     }
     true
 }
@@ -122,12 +116,10 @@ fn update_from(
     ensures { (length rows.new ≡ signal_words) × Rows arity.now fanins.now tables.now rows.new n m count }
 {
     let mut changed = given;
-    let mut h = from;
-    while h < m {
+    for h in from..m {
         changed = step(
             n, arity, fanins, before, tables, masks, count, rows, changed, h,
         );
-        h += 1;
     }
 }
 
@@ -159,10 +151,8 @@ fn complement_row(rows: &[u64; SIGNAL_WORDS], s: usize) -> [u64; ROW_WORDS]
     ensures { (w b : ℕ) → w < row_words → b < 64 → bit (get_or result w 0) b ≡ not (bit (get_or rows.now (row_words * s + w) 0) b) }
 {
     let mut l = [0u64; ROW_WORDS];
-    let mut w = 0;
-    while w < ROW_WORDS {
-        l[w] = bits::complement(rows[ROW_WORDS * s + w]);
-        w += 1;
+    for (w, word) in l.iter_mut().enumerate() {
+        *word = bits::complement(rows[ROW_WORDS * s + w]);
     }
     l
 }

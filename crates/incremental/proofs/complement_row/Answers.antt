@@ -1,5 +1,4 @@
 -- `incremental::complement_row` meets its contract. Assumes nothing.
-use mathlib.Core.Path.{refl}
 use mathlib.Core.Bool.{not}
 use Prim.Native.Nat.{◌+◌, ◌*◌}
 use native.Mathlib.Omega.{arith}
@@ -9,16 +8,9 @@ use Rattle.bits.specs.Bit.{bit}
 use Rattle.simulate.proofs.RowLaws.{filled-bits}
 use Rattle.incremental.proofs.complement_row.Goals as goal
 
-pub loop-w-init : goal.loop-w-init
-loop-w-init c = (omega arith, refl, λ v b h k. absurd (omega arith))
-
 pub loop-w-preserved : goal.loop-w-preserved
 loop-w-preserved c =
     let a = c.args in (
-      omega arith,
-      simp length-set c.loop-w.invariant.1,
-      filled-bits c.loop-w.l (λ v b. not (bit (get_or a.rows.now (row_words * a.s + v) 0) b)) c.loop-w.w c.complement.result (omega arith) c.loop-w.invariant.2 c.complement.ensures,
+      simp length-set c.loop-w.invariant.0,
+      filled-bits c.loop-w.word-items (λ v b. not (bit (get_or a.rows.now (row_words * a.s + v) 0) b)) c.loop-w.w c.complement.result (omega arith) c.loop-w.invariant.1 c.complement.ensures,
     )
-
-pub returns : goal.returns
-returns c w b h k = c.loop-w.invariant.2 w b (omega arith) k

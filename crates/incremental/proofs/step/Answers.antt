@@ -1,8 +1,6 @@
 -- `incremental::step` meets its contract. Assumes nothing.
-use mathlib.Core.Path.{refl}
 use native.Mathlib.Omega.{arith}
 use lib.ListN.{get_or}
-use Rattle.simulate.proofs.SimulationSteps.{later}
 use Rattle.incremental.proofs.Updates.{update-skip, update_same, update-stored}
 use Rattle.incremental.proofs.step.Goals as goal
 
@@ -11,10 +9,6 @@ returns-then-masks-h-eq0 c old m hm sim masked so_far =
     let a = c.args in
     update-skip a.arity.now a.fanins.now a.before.now a.tables.now old a.n m a.count sim a.rows.now a.h a.changed hm (omega arith) c.requires.gate_ok so_far
     (get_or a.masks.now a.h 0) (masked a.h hm) c.if-masks-h-eq0.true c.if-t-before.true
-
-pub lut_row-requires : goal.lut_row-requires
-lut_row-requires c =
-    record { g_lt_most_gates = (omega arith, omega arith, refl); gate_ok = later (omega arith) c.requires.gate_ok }
 
 pub returns-then-same_row : goal.returns-then-same_row
 returns-then-same_row c old m hm sim masked so_far =
