@@ -56,13 +56,11 @@ fn closed_by(
 {
     let all = bits::mask(entries::entry_count(network::place(arity[g])));
     let mut acc: u64 = 0;
-    let mut w = 0;
-    while w < count {
+    for w in 0..count {
         if acc == all {
             return acc;
         }
         acc = closed_in(n, arity, fanins, rows, hs, live, g, w, acc);
-        w += 1;
     }
     acc
 }
@@ -84,12 +82,10 @@ fn open_from(
     let arity = s.arity;
     let fanins = s.fanins;
     let mut opens = [0u64; MOST_GATES];
-    let mut g = 0;
-    while g < m {
+    for g in 0..m {
         let c = entries::entry_count(network::place(arity[g]));
         let v = bits::complement_within(c, closed_by(n, &arity, &fanins, rows, hs, live, count, g));
         opens[g] = v;
-        g += 1;
     }
     opens
 }
