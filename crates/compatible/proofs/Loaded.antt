@@ -7,8 +7,8 @@ use lib.Bits.{bit_and}
 use lib.ListN.{get_or}
 use Rattle.bits.specs.Bounds.{row_words}
 use Rattle.bits.specs.Cut.{Framed}
+use Rattle.network.specs.Answer.{Done}
 use Rattle.network.specs.declared.Session.{Session}
-use Rattle.network.specs.declared.Answer.TheVariants.{Done}
 use Rattle.network.specs.Bounds.{most_signals}
 use Rattle.network.specs.Compatible.{compatible, compatible_count, per_gate}
 use Rattle.network.specs.Flat.{net_of, loaded_net}

@@ -4,6 +4,7 @@
 ghost use Rattle.std.specs.Prelude.{◌≡◌, ℕ, ◌+◌, ◌*◌, ◌<◌, ◌≤◌, length, get_or};
 ghost use Rattle.std.specs.Int.Bits.{bit_and};
 ghost use Rattle.bits.specs.Bounds.{most_inputs, row_words};
+ghost use Rattle.network.specs.Answer.{Done};
 ghost use Rattle.network.specs.Bounds.{most_gates, signal_words, gate_words};
 ghost use Rattle.network.specs.Compatible.{compatible_count, per_gate};
 ghost use Rattle.network.specs.Flat.{loaded_net};
@@ -12,7 +13,7 @@ ghost use Rattle.simulate.specs.Simulated.{words_at};
 ghost use Rattle.compatible.specs.Words.{LoadedSets, LoadedRows, SetWords, ones_in};
 
 use bits::{Frame, ROW_WORDS};
-use network::{Answer, GATE_WORDS, MOST_GATES, SIGNAL_WORDS, Session};
+use network::{GATE_WORDS, MOST_GATES, SIGNAL_WORDS, Session};
 
 mod sets;
 
@@ -22,7 +23,7 @@ pub fn loaded_rows(
     rows: &mut [u64; SIGNAL_WORDS],
     hs: &mut [u64; SIGNAL_WORDS],
 ) -> Frame
-    requires { (state_fault s ≡ Answer.Done) × (length rows.old ≡ signal_words) }
+    requires { (state_fault s ≡ Done) × (length rows.old ≡ signal_words) }
     ensures { LoadedRows s rows.new hs.new result.count result.live }
 {
     let n = network::place(s.n);
@@ -64,7 +65,7 @@ fn store_word(
 
 // H of each gate, a row for each, by the rows of H.
 pub fn sets_from(s: Session, hs: &[u64; SIGNAL_WORDS], live: u64, count: usize) -> [u64; GATE_WORDS]
-    requires s_value { state_fault s ≡ Answer.Done }
+    requires s_value { state_fault s ≡ Done }
     requires loaded_sets { LoadedSets s hs.now count live }
     ensures { SetWords s result }
 {
@@ -96,7 +97,7 @@ fn ones_in(sets: &[u64; GATE_WORDS], at: usize, most: usize) -> u16
 
 // How many patterns the compatible set of each gate has: the ones of each of its words, added.
 pub fn counts_of(s: Session, sets: &[u64; GATE_WORDS]) -> [u16; MOST_GATES]
-    requires s_value { state_fault s ≡ Answer.Done }
+    requires s_value { state_fault s ≡ Done }
     requires set_words { SetWords s sets.now }
     ensures { result ≡ per_gate s.m (λ g. compatible_count (loaded_net s) (s.n + g)) }
 {
@@ -115,7 +116,7 @@ pub fn counts_of(s: Session, sets: &[u64; GATE_WORDS]) -> [u16; MOST_GATES]
 
 // The compatible sets of the loaded network.
 pub fn compatible_sets(s: Session) -> [u64; GATE_WORDS]
-    requires { state_fault s ≡ Answer.Done }
+    requires { state_fault s ≡ Done }
     ensures { SetWords s result }
 {
     let mut rows = [0u64; SIGNAL_WORDS];
@@ -126,7 +127,7 @@ pub fn compatible_sets(s: Session) -> [u64; GATE_WORDS]
 
 // How many patterns each of them has.
 pub fn counts(s: Session) -> [u16; MOST_GATES]
-    requires { state_fault s ≡ Answer.Done }
+    requires { state_fault s ≡ Done }
     ensures { result ≡ per_gate s.m (λ g. compatible_count (loaded_net s) (s.n + g)) }
 {
     let sets = compatible_sets(s);

@@ -1,8 +1,8 @@
 -- What a valid session gives the functions on its arrays. Assumes nothing.
 use mathlib.Core.Path.{◌≡◌}
 use Prim.Native.Nat.{ℕ, ◌+◌}
+use Rattle.network.specs.Answer.{Done}
 use Rattle.network.specs.declared.Session.{Session}
-use Rattle.network.specs.declared.Answer.TheVariants.{Done}
 use Rattle.network.specs.State.{state_fault}
 use Rattle.network.specs.Valid.{NetOk, OutputsOk}
 use Rattle.network.proofs.Valid.{net-ok, outputs-ok}

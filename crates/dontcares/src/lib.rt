@@ -6,7 +6,7 @@ ghost use Rattle.bits.specs.Bounds.{row_words};
 ghost use Rattle.bits.specs.Range.{any};
 ghost use Rattle.bits.specs.Bit.{bit, differs, table_of, column};
 ghost use Rattle.bits.specs.Cut.{word_count};
-ghost use Rattle.network.specs.declared.Answer.TheVariants.{Done};
+ghost use Rattle.network.specs.Answer.{Done};
 ghost use Rattle.network.specs.Bounds.{most_gates, most_fanins, most_signals, gate_words};
 ghost use Rattle.network.specs.Net.{entry};
 ghost use Rattle.network.specs.DontCares.{sdc, cdc, odc, full};

@@ -5,7 +5,7 @@ ghost use Rattle.std.specs.Prelude.{◌≡◌, ◌+◌, ◌*◌, ◌%◌, ◌<�
 ghost use Rattle.bits.specs.Bounds.{most_inputs};
 ghost use Rattle.bits.specs.Lists.{overwritten};
 ghost use Rattle.buffer.specs.Laid.{Room, Laid};
-ghost use Rattle.network.specs.declared.Answer.TheVariants.{Done};
+ghost use Rattle.network.specs.Answer.{Done};
 ghost use Rattle.network.specs.Bounds.{most_gates, most_outputs, most_fanins, most_set_bytes, most_gate_bytes, most_file_bytes};
 ghost use Rattle.network.specs.State.{arity_of, state_fault};
 ghost use Rattle.network.specs.Write.{word_bytes, all_zero, excluded_bytes, form_for, gate_bytes, gates_bytes, outputs_bytes, bytes_of};

@@ -10,8 +10,8 @@ use Rattle.bits.specs.Range.{any}
 use Rattle.bits.specs.Bit.{bit, number, table_of}
 use Rattle.bits.specs.Cut.{Framed}
 use Rattle.bits.proofs.Ranges.{any-ext, table-ext, map-places}
+use Rattle.network.specs.Answer.{Done}
 use Rattle.network.specs.declared.Session.{Session}
-use Rattle.network.specs.declared.Answer.TheVariants.{Done}
 use Rattle.network.specs.Net.{Gate, Net, arity, entry, values}
 use Rattle.network.specs.Compatible.{agree, compatible, delivers, closed, open_table, open_tables, per_gate}
 use Rattle.network.specs.Flat.{gate_at, net_of, loaded_net}

@@ -4,6 +4,7 @@
 ghost use Rattle.std.specs.Prelude.{◌≡◌, ◌+◌, ◌*◌, ◌^◌, ◌<◌, ◌≤◌, get_or};
 ghost use Rattle.std.specs.Int.Bits.{bit_or};
 ghost use Rattle.bits.specs.Bounds.{most_inputs, row_words};
+ghost use Rattle.network.specs.Answer.{Done};
 ghost use Rattle.network.specs.Bounds.{most_gates, most_signals};
 ghost use Rattle.network.specs.Compatible.{compatible_count, open_tables, per_gate};
 ghost use Rattle.network.specs.Flat.{loaded_net};
@@ -14,7 +15,7 @@ ghost use Rattle.compatible.specs.Words.{LoadedRows};
 ghost use Rattle.opentables.specs.Closed.{closed_in, closed_by};
 
 use bits::ROW_WORDS;
-use network::{Answer, FANIN_PLACES, MOST_GATES, SIGNAL_WORDS, Session};
+use network::{FANIN_PLACES, MOST_GATES, SIGNAL_WORDS, Session};
 
 // Rule 7 in word w: the entries found, and those of gate g that a place of live, outside the gate's own set, delivers.
 fn closed_in(
@@ -74,7 +75,7 @@ fn open_from(
     live: u64,
     count: usize,
 ) -> [u64; MOST_GATES]
-    requires s_value { state_fault s ≡ Answer.Done }
+    requires s_value { state_fault s ≡ Done }
     requires loaded_rows { LoadedRows s rows.now hs.now count live }
     ensures { result ≡ open_tables (loaded_net s) }
 {
@@ -95,7 +96,7 @@ fn open_from(
 
 // The open tables of the loaded network.
 pub fn open_tables(s: Session) -> [u64; MOST_GATES]
-    requires { state_fault s ≡ Answer.Done }
+    requires { state_fault s ≡ Done }
     ensures { result ≡ open_tables (loaded_net s) }
 {
     let mut rows = [0u64; SIGNAL_WORDS];
@@ -113,7 +114,7 @@ pub struct OpenCounts {
 
 // Both from one computation of the compatible sets.
 pub fn open_and_counts(s: Session) -> OpenCounts
-    requires { state_fault s ≡ Answer.Done }
+    requires { state_fault s ≡ Done }
     ensures { result ≡ record { opens = open_tables (loaded_net s); counts = per_gate s.m (λ g. compatible_count (loaded_net s) (s.n + g)) } }
 {
     let mut rows = [0u64; SIGNAL_WORDS];

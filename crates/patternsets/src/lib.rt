@@ -6,13 +6,14 @@ ghost use Rattle.bits.specs.Bounds.{row_words};
 ghost use Rattle.bits.specs.Range.{places};
 ghost use Rattle.bits.specs.Cut.{word_count};
 ghost use Rattle.bits.specs.Lists.{overwritten};
+ghost use Rattle.network.specs.Answer.{Done};
 ghost use Rattle.network.specs.Bounds.{most_gates, gate_words};
 ghost use Rattle.network.specs.State.{state_fault};
 ghost use Rattle.network.specs.Calls.{set_words};
 ghost use Rattle.patternsets.specs.Stretches.{row, stretches};
 
 use bits::ROW_WORDS;
-use network::{Answer, GATE_WORDS, Session};
+use network::{GATE_WORDS, Session};
 
 // The words of src from place at on, as many as there is room for.
 fn copy(out: &mut [u64], src: &[u64; GATE_WORDS], at: usize)
@@ -65,7 +66,7 @@ fn fill_gates(
 
 // How many words a set takes.
 fn words_per_set(s: Session) -> usize
-    requires { state_fault s ≡ Answer.Done }
+    requires { state_fault s ≡ Done }
     ensures { (result ≡ word_count s.n) × (result ≤ row_words) }
 {
     let f = bits::frame_of(network::place(s.n));
@@ -74,7 +75,7 @@ fn words_per_set(s: Session) -> usize
 
 // How many words the sets of all gates take.
 pub fn words_needed(s: Session) -> usize
-    requires { state_fault s ≡ Answer.Done }
+    requires { state_fault s ≡ Done }
     ensures { result ≡ length (set_words s s.m) }
 {
     let w = words_per_set(s);
@@ -83,7 +84,7 @@ pub fn words_needed(s: Session) -> usize
 
 // The ODC and H of all gates, gate after gate, from the start of the buffer; the words after the last stay.
 pub fn fill(s: Session, buf: &mut [u64])
-    requires s_value { state_fault s ≡ Answer.Done }
+    requires s_value { state_fault s ≡ Done }
     requires m_in_bounds { length (set_words s s.m) ≤ length buf.old }
     ensures { buf.new ≡ overwritten (set_words s s.m) buf.old }
 {
