@@ -9,22 +9,24 @@ use lib.ListN.{length, get_or}
 use borrow.Author.Tests.{eq-eqb, ne_eqb}
 use Rattle.bits.specs.Bit.{bit}
 use Rattle.bits.proofs.BitLaws.{bit-zero}
+use Rattle.std.specs.Prelude.{Result, Ok, Err}
+use Rattle.std.specs.Result.{MatchResult, IsErrAnd}
+use Rattle.network.specs.Answer.{Answer, Done}
 use Rattle.network.specs.declared.Session.{Session}
 use Rattle.network.specs.declared.Refusal.{Refusal}
 use Rattle.network.specs.declared.Refusal.TheVariants.{NotAGate, TableTooWide, ListsUnequal, GateRepeated}
-use Rattle.network.specs.declared.Answer.{Answer}
-use Rattle.network.specs.declared.Answer.TheVariants.{Done, Refused}
 use Rattle.network.specs.Bounds.{most_gates}
 use Rattle.network.specs.Net.{is_gate, Replacement, replaced}
 use Rattle.network.specs.Flat.{net_with, loaded_net, current_net, stored_all}
 use Rattle.network.specs.Tests.{refuse_if, or_else, first, is_done, member}
 use Rattle.network.specs.State.{state_fault, state_test}
 use Rattle.network.specs.Calls.{gate_test, fits, table_test, harm_test, lengths_test, pairs, pair_test, pairs_test, refused_at, verdict_of}
-use Rattle.network.proofs.TestLaws.{alone}
+use Rattle.network.proofs.TestLaws.{alone, handed-on}
 use Rattle.network.proofs.Valid.{state-i}
 use Rattle.network.proofs.Exchanges.{gate-e}
 use Rattle.network.proofs.Lists.{sound-e}
 use Rattle.network.proofs.Replaced.{replaced-all}
+use Rattle.replacements.specs.declared.PairRefused.{PairRefused}
 use Rattle.replacements.specs.Pair.{GatesIn, pair_by, pairs_by, refused_by}
 use Rattle.replacements.proofs.Pairs.{pairs-in, stored-length}
 use Rattle.answers.proofs.Named.{gate-is, bounded, fits-is}
@@ -65,9 +67,15 @@ module _ (s : Session) where
 
 -- ## The verdict
 
+-- the answer alone of the tests of the pairs
+pub answer-alone : (v : Result (Unit {0}) PairRefused) {r a : Answer} (k l : ℕ) → MatchResult v (λ x. r ≡ Ok x) (λ e. IsErrAnd r (λ f. f ≡ e.refusal))
+    → MatchResult v (λ _. (Done ≡ a) × (l ≡ k)) (λ e. (Err e.refusal ≡ a) × (e.pair ≡ k)) → r ≡ a
+answer-alone (Ok _) k l p t = p ∙ t.0
+answer-alone (Err e) k l p t = handed-on p t.0
+
 -- n and m are the session's counts
 module _ (s : Session) (valid : state_fault s ≡ Done) (gs ts : List ℕ) where
-  pub verdict-unequal : (length gs ≡ length ts → ⊥) → Refused ListsUnequal ≡ verdict_of s gs ts
+  pub verdict-unequal : (length gs ≡ length ts → ⊥) → Err ListsUnequal ≡ verdict_of s gs ts
   unfolding verdict_of lengths_test
   verdict-unequal d = rw (state-i s valid, ne_eqb (length gs) (length ts) d)
 
@@ -75,9 +83,9 @@ module _ (s : Session) (valid : state_fault s ≡ Done) (gs ts : List ℕ) where
     answer-is : a ≡ pairs_test (loaded_net s) [] (pairs gs ts)
     answer-is = e ∙ rw (en, em) (pairs-are s [] (pairs gs ts))
 
-    pub verdict-refused : {f : Refusal} → a ≡ Refused f → a ≡ verdict_of s gs ts
+    pub verdict-refused : {f : Refusal} → a ≡ Err f → Err f ≡ verdict_of s gs ts
     unfolding verdict_of lengths_test
-    verdict-refused k = rw (state-i s valid, eq-eqb (length gs) (length ts) same, sym answer-is ∙ k) k
+    verdict-refused k = rw (state-i s valid, eq-eqb (length gs) (length ts) same, sym answer-is ∙ k)
 
     -- each gate's table has a place
     pub gates-placed : a ≡ Done → GatesIn n most_gates gs

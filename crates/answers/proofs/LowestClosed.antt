@@ -14,8 +14,9 @@ use Rattle.bits.proofs.BitLaws.{bit-and, bit-xor, bit-zero}
 use Rattle.bits.proofs.Ranges.{and_r}
 use Rattle.bits.proofs.Logic.{clash}
 use Rattle.bits.proofs.Search.{smallest-eq}
+use Rattle.std.specs.Prelude.{Err}
+use Rattle.network.specs.Answer.{Done}
 use Rattle.network.specs.declared.Refusal.TheVariants.{ClosedEntry}
-use Rattle.network.specs.declared.Answer.TheVariants.{Done, Refused}
 use Rattle.network.specs.Calls.{entry_found}
 
 and-swap : (a b : Bool) → a && (b && true) ≡ b && a
@@ -53,7 +54,7 @@ module _ (E opens loaded table others mask : ℕ) (room : E ≤ 64) (inverted : 
   pub none-closed : altered ≡ 0 → Done ≡ entry_found (smallest E shut)
   none-closed z = sym (ap entry_found (smallest-eq E shut None (λ i h. sym (altered-at i h) ∙ ap (λ (x : ℕ). bit x i) z ∙ bit-zero i)))
 
-  pub lowest-closed : (t : ℕ) → bit altered t ≡ true → ((i : ℕ) → i < t → bit altered i ≡ false) → Refused (ClosedEntry t) ≡ entry_found (smallest E shut)
+  pub lowest-closed : (t : ℕ) → bit altered t ≡ true → ((i : ℕ) → i < t → bit altered i ≡ false) → Err (ClosedEntry t) ≡ entry_found (smallest E shut)
   lowest-closed t e below =
       let h = inside t e in
       sym (ap entry_found (smallest-eq E shut (Some t) (h, sym (altered-at t h) ∙ e, λ i l. sym (altered-at i (omega arith)) ∙ below i l)))

@@ -9,10 +9,10 @@ use lib.ListN.{get_or}
 use Rattle.bits.specs.Bounds.{most_inputs}
 use Rattle.bits.specs.Range.{smallest}
 use Rattle.bits.specs.Bit.{bit, differs}
+use Rattle.std.specs.Prelude.{Err}
+use Rattle.network.specs.Answer.{Answer, Done}
 use Rattle.network.specs.declared.Session.{Session}
 use Rattle.network.specs.declared.Refusal.TheVariants.{NotAGate}
-use Rattle.network.specs.declared.Answer.{Answer}
-use Rattle.network.specs.declared.Answer.TheVariants.{Done, Refused}
 use Rattle.network.specs.Bounds.{most_gates, most_fanins}
 use Rattle.network.specs.Net.{Gate, is_gate, gate, arity, Replacement}
 use Rattle.network.specs.Flat.{gate_at, loaded_net}
@@ -39,7 +39,7 @@ module _ (s : Session) (k : ℕ) where
   unfolding gate_test
   gate-fine e = rw (gate-is, e)
 
-  pub gate-refused : (leb s.n k && ltb k (s.n + s.m)) ≡ false → Refused NotAGate ≡ gate_test (loaded_net s) k
+  pub gate-refused : (leb s.n k && ltb k (s.n + s.m)) ≡ false → Err NotAGate ≡ gate_test (loaded_net s) k
   unfolding gate_test
   gate-refused e = rw (gate-is, e)
 

@@ -5,44 +5,44 @@
 ghost use Rattle.std.specs.Prelude.{◌≡◌, not, ◌&&◌, [], ◌∷◌, ◌^◌, ◌≤◌, length};
 ghost use Rattle.bits.specs.Range.{smallest};
 ghost use Rattle.bits.specs.Bit.{bit, differs};
-ghost use Rattle.network.specs.declared.Answer.TheVariants.{Done};
+ghost use Rattle.network.specs.Answer.{Done};
 ghost use Rattle.network.specs.Bounds.{most_fanins};
 ghost use Rattle.network.specs.Flat.{loaded_net};
 ghost use Rattle.network.specs.Tests.{first};
 ghost use Rattle.network.specs.State.{state_fault, state_test};
 ghost use Rattle.network.specs.Calls.{gate_test, table_test, entry_found, exchange_answer, pairs, refused_at, verdict_of, tables_of, pattern_sets_of, counts_of, written_of};
 
-use network::{Answer, Counts, Refusal, Session, Tables, TablesAnswer, WriteAnswer};
+use network::{MOST_GATES, Refusal, Session, Tables};
 
 // The lowest entry of k fan-ins' tables that differs and is not open.
-fn first_closed(k: u8, loaded: u64, table: u64, opens: u64) -> Answer
+fn first_closed(k: u8, loaded: u64, table: u64, opens: u64) -> Result<(), Refusal>
     requires { k ≤ most_fanins }
     ensures { result ≡ entry_found (smallest (2 ^ k) (λ t. not (bit opens t) && differs (bit loaded t) (bit table t))) }
 {
     let entries = entries::entry_count(network::place(k));
     let altered = (loaded ^ table) & (bits::complement(opens) & bits::mask(entries));
     if altered == 0 {
-        return Answer::Done;
+        return Ok(());
     }
     let t = bits::lowest_bit(altered);
-    Answer::Refused(Refusal::ClosedEntry(t as usize))
+    Err(Refusal::ClosedEntry(t as usize))
 }
 
 // Refusal 11: no gate has that signal number.
-fn gate_test(s: Session, gate: usize) -> Answer
+fn gate_test(s: Session, gate: usize) -> Result<(), Refusal>
     requires { state_fault s ≡ Done }
     ensures { result ≡ first (state_test s ∷ gate_test (loaded_net s) gate ∷ []) }
 {
     let n = s.n as usize;
     let m = s.m as usize;
     if replacements::is_gate(n, m, gate) {
-        return Answer::Done;
+        return Ok(());
     }
-    Answer::Refused(Refusal::NotAGate)
+    Err(Refusal::NotAGate)
 }
 
 // Refusal 11, then 12: a pair with none before it.
-fn replacement_test(s: Session, gate: usize, table: u64) -> Answer
+fn replacement_test(s: Session, gate: usize, table: u64) -> Result<(), Refusal>
     requires { state_fault s ≡ Done }
     ensures { result ≡ first (state_test s ∷ gate_test (loaded_net s) gate ∷ table_test (loaded_net s) (record { signal = gate; table = table }) ∷ []) }
 {
@@ -53,14 +53,11 @@ fn replacement_test(s: Session, gate: usize, table: u64) -> Answer
 }
 
 // What an exchange is answered: the first of 11 to 13 that applies.
-pub fn exchange(s: Session, gate: usize, table: u64) -> Answer
+pub fn exchange(s: Session, gate: usize, table: u64) -> Result<(), Refusal>
     requires { state_fault s ≡ Done }
     ensures { result ≡ exchange_answer s (record { signal = gate; table = table }) }
 {
-    let a = replacement_test(s, gate, table);
-    if let Answer::Refused(_) = a {
-        return a;
-    }
+    replacement_test(s, gate, table)?;
     let n = s.n as usize;
     let g = gate - n;
     let k = s.arity[g];
@@ -70,21 +67,17 @@ pub fn exchange(s: Session, gate: usize, table: u64) -> Answer
 }
 
 // The verdict on a list of gates with a list of tables, as one replacement: 15, the pairs in order, then 14.
-pub fn verdict(s: Session, gates: &[u64], tables: &[u64]) -> Answer
+pub fn verdict(s: Session, gates: &[u64], tables: &[u64]) -> Result<(), Refusal>
     requires { state_fault s ≡ Done }
     ensures { result ≡ verdict_of s gates.now tables.now }
 {
     if gates.len() != tables.len() {
-        return Answer::Refused(Refusal::ListsUnequal);
+        return Err(Refusal::ListsUnequal);
     }
     let n = network::place(s.n);
     let m = network::place(s.m);
     let arity = s.arity;
-    let t = replacements::pairs_test(n, m, &arity, gates, tables);
-    let a = t.answer;
-    if let Answer::Refused(_) = a {
-        return a;
-    }
+    replacements::pairs_test(n, m, &arity, gates, tables).map_err(|e| e.refusal)?;
     let current = s.current;
     let all = replacements::replace_tables(n, current, gates, tables);
     verdict::harm(s, all)
@@ -99,24 +92,23 @@ pub fn refused_at(s: Session, gates: &[u64], tables: &[u64]) -> usize
     let n = network::place(s.n);
     let m = network::place(s.m);
     let arity = s.arity;
-    let t = replacements::pairs_test(n, m, &arity, gates, tables);
-    t.passed
+    match replacements::pairs_test(n, m, &arity, gates, tables) {
+        Ok(()) => gates.len(),
+        Err(e) => e.pair,
+    }
 }
 
 // The SDC, CDC, full and open table of a gate, or 11.
-pub fn tables(s: Session, gate: usize) -> TablesAnswer
+pub fn tables(s: Session, gate: usize) -> Result<Tables, Refusal>
     requires { state_fault s ≡ Done }
     ensures { result ≡ tables_of s gate }
 {
-    let a = gate_test(s, gate);
-    if let Answer::Refused(r) = a {
-        return TablesAnswer::Refused(r);
-    }
+    gate_test(s, gate)?;
     let n = s.n as usize;
     let g = gate - n;
     let t = dontcares::gate_tables(s, g);
     let d = dontcares::sdc(s, g);
-    TablesAnswer::Given(Tables {
+    Ok(Tables {
         sdc: d,
         cdc: t.cdc,
         full: t.full,
@@ -125,37 +117,32 @@ pub fn tables(s: Session, gate: usize) -> TablesAnswer
 }
 
 // The ODC and the compatible set of each gate, gate after gate from the start of the buffer, or 9; the words after the last stay.
-pub fn pattern_sets(s: Session, buf: &mut [u64]) -> Answer
+pub fn pattern_sets(s: Session, buf: &mut [u64]) -> Result<(), Refusal>
     requires { state_fault s ≡ Done }
     ensures { record { answer = result; buffer = buf.new } ≡ pattern_sets_of s buf.old }
 {
     if buf.len() < patternsets::words_needed(s) {
-        return Answer::Refused(Refusal::BufferTooShort);
+        return Err(Refusal::BufferTooShort);
     }
     patternsets::fill(s, buf);
-    Answer::Done
+    Ok(())
 }
 
 // The number of patterns in the compatible set of each gate.
-pub fn counts(s: Session) -> Counts
+pub fn counts(s: Session) -> Result<[u16; MOST_GATES], Refusal>
     requires { state_fault s ≡ Done }
     ensures { result ≡ counts_of s }
 {
-    let c = compatible::counts(s);
-    Counts {
-        answer: Answer::Done,
-        counts: c,
-    }
+    Ok(compatible::counts(s))
 }
 
 // The file's bytes from the start of the buffer, with the length, or 9; the rest of the buffer stays.
-pub fn write(s: Session, buf: &mut [u8]) -> WriteAnswer
+pub fn write(s: Session, buf: &mut [u8]) -> Result<usize, Refusal>
     requires { state_fault s ≡ Done }
     ensures { record { answer = result; buffer = buf.new } ≡ written_of s buf.old }
 {
     if buf.len() < netwrite::bytes_needed(s) {
-        return WriteAnswer::Refused(Refusal::BufferTooShort);
+        return Err(Refusal::BufferTooShort);
     }
-    let n = netwrite::write_bytes(s, buf);
-    WriteAnswer::Written(n)
+    Ok(netwrite::write_bytes(s, buf))
 }

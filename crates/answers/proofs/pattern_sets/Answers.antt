@@ -14,10 +14,6 @@ returns-then-buf-words_needed c =
     let h : length a.buf.now < length (set_words a.s a.s.m) = omega (arith, c.words_needed.ensures) in
     sym (filling-short a.s (set_words a.s a.s.m) a.buf.now c.requires h)
 
-pub fill-requires : goal.fill-requires
-fill-requires c =
-    record { s_value = c.requires; m_in_bounds = omega (arith, c.words_needed.ensures) }
-
 pub returns : goal.returns
 unfolding pattern_sets_of
 returns c =

@@ -14,13 +14,9 @@ returns-then-buf-bytes_needed c =
     let h : length a.buf.now < length (bytes_of a.s) = omega (arith, c.bytes_needed.ensures) in
     rw (filling-short a.s (bytes_of a.s) a.buf.now c.requires h)
 
-pub write_bytes-n-requires : goal.write_bytes-n-requires
-write_bytes-n-requires c =
-    (c.requires, omega (arith, c.bytes_needed.ensures))
-
 pub returns : goal.returns
 unfolding written_of write_of
 returns c =
     let a = c.args in
     let h : length (bytes_of a.s) ≤ length a.buf.now = omega (arith, c.bytes_needed.ensures) in
-    rw (filling-done a.s (bytes_of a.s) a.buf.now c.requires h, c.write_bytes-n.ensures.0, c.write_bytes-n.ensures.1)
+    rw (filling-done a.s (bytes_of a.s) a.buf.now c.requires h, c.write_bytes.ensures.0, c.write_bytes.ensures.1)
