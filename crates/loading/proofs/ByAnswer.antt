@@ -2,7 +2,7 @@
 use mathlib.Core.Path.{◌≡◌, refl, sym, ap, ◌∙◌}
 use mathlib.Core.List.{List}
 use Prim.Native.Nat.{ℕ}
-use Rattle.std.specs.Prelude.{Result, Ok, Err}
+use Rattle.std.specs.Prelude.{Result, Ok}
 use Rattle.network.specs.declared.Session.{Session}
 use Rattle.network.specs.declared.Refusal.{Refusal}
 use Rattle.network.specs.Answer.{Done}
@@ -11,7 +11,6 @@ use Rattle.network.specs.State.{state_fault}
 use Rattle.network.specs.Load.{opened, opening, read_of, load_of}
 use Rattle.network.specs.Calls.{pattern_counts}
 use Rattle.network.proofs.Reached.{opened-fault, loaded-fresh, load-back}
-use Rattle.loading.specs.declared.Counted.{Counted}
 use Rattle.loading.specs.Counted.{counted, counted_of}
 
 module _ (bytes : List ℕ) where
