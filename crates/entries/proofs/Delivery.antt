@@ -6,7 +6,7 @@ use Prim.Native.Nat.{ℕ, ◌+◌, ◌*◌, ◌%◌, ◌^◌, ◌<◌, ◌≤◌
 use native.Mathlib.Nat.{mul_comm, lt_of_lt_of_le}
 use native.Mathlib.Omega.{arith}
 use native.Mathlib.Numerals.{add-one}
-use lib.Bits.{bit_and, bit_or, or_zero_l}
+use lib.Bits.{bit_and, bit_or}
 use lib.Pow.{shl_exact, pow_mono}
 use lib.Dec.{eqb}
 use lib.ListN.{get_or}
@@ -20,30 +20,24 @@ use Rattle.network.specs.Compatible.{agree}
 use Rattle.entries.specs.By.{delivered_by}
 use Rattle.entries.proofs.Halves.{table-append, doubled}
 
-module _ (k j : ℕ) (ins frees : List ℕ) (keep r : ℕ) (arity : k ≡ j) (given : r ≡ delivered_by j ins frees keep) where
+module _ (k : ℕ) (ins frees : List ℕ) (keep : ℕ) where
   -- the minterm words by another test
-  tested : (q : ℕ → ℕ → ℕ → Bool) → ((t : ℕ) → t < 2 ^ j → (b : ℕ) → gives j ins frees t b ≡ q j t b) → r ≡ table_of (2 ^ k) (λ t. any 64 (λ b. bit keep b && q k t b))
+  tested : (q : ℕ → ℕ → Bool) → ((t : ℕ) → t < 2 ^ k → (b : ℕ) → gives k ins frees t b ≡ q t b) → delivered_by k ins frees keep ≡ table_of (2 ^ k) (λ t. any 64 (λ b. bit keep b && q t b))
   unfolding delivered_by
   tested q same =
-      rw arity (given
-      ∙ table-ext (2 ^ j) (λ t. any 64 (λ b. bit keep b && gives j ins frees t b)) (λ t. any 64 (λ b. bit keep b && q j t b))
-      (λ t h. any-ext 64 (λ b. bit keep b && gives j ins frees t b) (λ b. bit keep b && q j t b) (λ b hb. ap (λ (x : Bool). bit keep b && x) (same t h b))))
+      table-ext (2 ^ k) (λ t. any 64 (λ b. bit keep b && gives k ins frees t b)) (λ t. any 64 (λ b. bit keep b && q t b))
+      (λ t h. any-ext 64 (λ b. bit keep b && gives k ins frees t b) (λ b. bit keep b && q t b) (λ b hb. ap (λ (x : Bool). bit keep b && x) (same t h b)))
 
-  -- with the entries found
-  pub by-agreement : (found : ℕ) → bit_or found r ≡ bit_or found (table_of (2 ^ k) (λ t. any 64 (λ b. bit keep b && agree k (entry_at k frees b) (entry_at k ins b) t)))
+  pub by-agreement : delivered_by k ins frees keep ≡ table_of (2 ^ k) (λ t. any 64 (λ b. bit keep b && agree k (entry_at k frees b) (entry_at k ins b) t))
   unfolding agree
-  by-agreement found =
-      ap (bit_or found) (tested (λ k t b. agree k (entry_at k frees b) (entry_at k ins b) t)
-      (λ t ht b. every-ext j (λ i. bit (get_or frees i 0) b || beq (bit (get_or ins i 0) b) (bit t i)) (λ i. bit (entry_at j frees b) i || beq (bit (entry_at j ins b) i) (bit t i))
-      (λ i h. ap₂ (λ (p q : Bool). p || beq q (bit t i)) (sym (bit-table j (λ r. bit (get_or frees r 0) b) i h)) (sym (bit-table j (λ r. bit (get_or ins r 0) b) i h)))))
+  by-agreement =
+      tested (λ t b. agree k (entry_at k frees b) (entry_at k ins b) t)
+      (λ t ht b. every-ext k (λ i. bit (get_or frees i 0) b || beq (bit (get_or ins i 0) b) (bit t i)) (λ i. bit (entry_at k frees b) i || beq (bit (entry_at k ins b) i) (bit t i))
+      (λ i h. ap₂ (λ (p q : Bool). p || beq q (bit t i)) (sym (bit-table k (λ r. bit (get_or frees r 0) b) i h)) (sym (bit-table k (λ r. bit (get_or ins r 0) b) i h))))
 
-  pub by-equality : (found : ℕ) → ((i : ℕ) → i < j → get_or frees i 0 ≡ 0) → bit_or found r ≡ bit_or found (table_of (2 ^ k) (λ t. any 64 (λ b. bit keep b && eqb (entry_at k ins b) t)))
-  by-equality found none =
-      ap (bit_or found) (tested (λ k t b. eqb (entry_at k ins b) t) (λ t h b. minterm-at ins frees t b j h (λ i hi. ap (λ (x : ℕ). bit x b) (none i hi) ∙ bit-zero b)))
-
--- where none is found yet
-pub none_found : (found r x : ℕ) → found ≡ 0 → bit_or found r ≡ x → r ≡ x
-none_found found r x e h = sym (ap (λ (f : ℕ). bit_or f r) e ∙ or_zero_l r) ∙ h
+  pub by-equality : ((i : ℕ) → i < k → get_or frees i 0 ≡ 0) → delivered_by k ins frees keep ≡ table_of (2 ^ k) (λ t. any 64 (λ b. bit keep b && eqb (entry_at k ins b) t))
+  by-equality none =
+      tested (λ t b. eqb (entry_at k ins b) t) (λ t h b. minterm-at ins frees t b k h (λ i hi. ap (λ (x : ℕ). bit x b) (none i hi) ∙ bit-zero b))
 
 -- the entries of k + 1 fan-ins from low and high, those of the first k: with the last one 0, and with it 1
 pub record Halves (ins frees : List ℕ) (keep k low high : ℕ) : Type 0 where

@@ -20,11 +20,9 @@ fn delivered(k: usize, ins: &[u64; GATE_PLACES], frees: &[u64; GATE_PLACES], kee
     let n = entry_count(k) as usize;
     let words = bits::minterms(k, ins, frees, keep);
     let mut acc: u64 = 0;
-    let mut t = 0;
-    while t < n {
+    for t in 0..n {
         let b = bits::any_bit(words[t]);
         acc = bits::with_entry(acc, t as u64, b);
-        t += 1;
     }
     acc
 }
@@ -97,8 +95,10 @@ fn missing(
     found | tested(&low, &high, bits::complement_within(entry_count(k), found))
 }
 
-// The entries found and those that some place of keep delivers. A call for each arity, as above.
-pub fn reach(
+// The entries found and those that some place of keep delivers. A call for each arity, as above; inlined, so that the words of free fan-ins
+// cost nothing where they are known to be 0.
+#[inline(always)]
+fn with_delivered(
     k: usize,
     ins: &[u64; GATE_PLACES],
     frees: &[u64; GATE_PLACES],
@@ -106,7 +106,7 @@ pub fn reach(
     found: u64,
 ) -> u64
     requires { (1 ≤ k) × (k ≤ most_fanins) × (found < 2 ^ 2 ^ k) }
-    ensures { result ≡ bit_or found (table_of (2 ^ k) (λ t. any 64 (λ b. bit keep b && agree k (entry_at k frees.now b) (entry_at k ins.now b) t))) }
+    ensures { result ≡ bit_or found (delivered_by k ins.now frees.now keep) }
 {
     if k == 1 {
         return found | delivered(1, ins, frees, keep);
@@ -129,31 +129,27 @@ pub fn reach(
     delivered6(*ins, *frees, keep)
 }
 
+// The entries found and those that some place of keep delivers.
+pub fn reach(
+    k: usize,
+    ins: &[u64; GATE_PLACES],
+    frees: &[u64; GATE_PLACES],
+    keep: u64,
+    found: u64,
+) -> u64
+    requires { (1 ≤ k) × (k ≤ most_fanins) × (found < 2 ^ 2 ^ k) }
+    ensures { result ≡ bit_or found (table_of (2 ^ k) (λ t. any 64 (λ b. bit keep b && agree k (entry_at k frees.now b) (entry_at k ins.now b) t))) }
+{
+    with_delivered(k, ins, frees, keep, found)
+}
+
 // The entries found and those that the values of some place of keep are: no fan-in is free.
 pub fn meets(k: usize, ins: &[u64; GATE_PLACES], keep: u64, found: u64) -> u64
     requires { (1 ≤ k) × (k ≤ most_fanins) × (found < 2 ^ 2 ^ k) }
     ensures { result ≡ bit_or found (table_of (2 ^ k) (λ t. any 64 (λ b. bit keep b && eqb (entry_at k ins.now b) t))) }
 {
     let held = [0u64; GATE_PLACES];
-    if k == 1 {
-        return found | delivered(1, ins, &held, keep);
-    }
-    if k == 2 {
-        return found | delivered(2, ins, &held, keep);
-    }
-    if k == 3 {
-        return found | delivered(3, ins, &held, keep);
-    }
-    if k == 4 {
-        return found | delivered(4, ins, &held, keep);
-    }
-    if found != 0 {
-        return missing(k, *ins, held, keep, found);
-    }
-    if k == 5 {
-        return delivered5(*ins, held, keep);
-    }
-    delivered6(*ins, held, keep)
+    with_delivered(k, ins, &held, keep, found)
 }
 
 // How many entries a gate of k fan-ins has.

@@ -1,5 +1,5 @@
 -- `entries::delivered` meets its contract. Assumes nothing.
-use mathlib.Core.Path.{◌≡◌, refl, ap, ◌∙◌}
+use mathlib.Core.Path.{◌≡◌, ap, ◌∙◌}
 use mathlib.Core.Bool.{Bool, ◌&&◌}
 use Prim.Native.Nat.{ℕ, ◌^◌, ◌<◌}
 use native.Mathlib.Omega.{arith}
@@ -10,9 +10,6 @@ use Rattle.bits.proofs.Ranges.{small-words, table-room, table_step, any-ext}
 use Rattle.entries.specs.By.{delivered_by}
 use Rattle.entries.proofs.delivered.Goals as goal
 
-pub loop-t-init : goal.loop-t-init
-loop-t-init c = (omega arith, refl)
-
 pub bounds-words-t : goal.bounds-words-t
 bounds-words-t c =
     let e = c.entry_count-n.ensures in
@@ -21,7 +18,7 @@ bounds-words-t c =
 pub with_entry-acc-requires : goal.with_entry-acc-requires
 with_entry-acc-requires c =
     let e = c.entry_count-n.ensures in
-    table-room _ _ _ c.loop-t.invariant.1 (omega (arith, e.1))
+    table-room _ _ _ c.loop-t.invariant (omega (arith, e.1))
 
 pub loop-t-preserved : goal.loop-t-preserved
 loop-t-preserved c =
@@ -30,11 +27,9 @@ loop-t-preserved c =
     let l = c.loop-t in
     let e = c.entry_count-n.ensures in
     let h : l.t < 2 ^ s.k = omega (arith, e.0) in
-    let test : ℕ → ℕ → Bool = λ t b. bit s.keep b && gives s.k s.ins.now s.frees.now t b in (
-      omega arith,
-      table_step l.t (λ t. any 64 (test t)) l.acc l.invariant.1 c.any_bit-b.result c.with_entry-acc.result
-          (c.any_bit-b.ensures ∙ any-ext 64 (bit (get_or m.result l.t 0)) (test l.t) (m.ensures l.t h)) c.with_entry-acc.ensures,
-    )
+    let test : ℕ → ℕ → Bool = λ t b. bit s.keep b && gives s.k s.ins.now s.frees.now t b in
+    table_step l.t (λ t. any 64 (test t)) l.acc l.invariant c.any_bit-b.result c.with_entry-acc.result
+    (c.any_bit-b.ensures ∙ any-ext 64 (bit (get_or m.result l.t 0)) (test l.t) (m.ensures l.t h)) c.with_entry-acc.ensures
 
 pub returns : goal.returns
 unfolding delivered_by
@@ -42,4 +37,4 @@ returns c =
     let s = c.args in
     let l = c.loop-t in
     let e : l.t ≡ 2 ^ s.k = omega (arith, c.entry_count-n.ensures.0) in
-    l.invariant.1 ∙ ap (λ (n : ℕ). table_of n (λ t. any 64 (λ b. bit s.keep b && gives s.k s.ins.now s.frees.now t b))) e
+    l.invariant ∙ ap (λ (n : ℕ). table_of n (λ t. any 64 (λ b. bit s.keep b && gives s.k s.ins.now s.frees.now t b))) e

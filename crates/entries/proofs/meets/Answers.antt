@@ -1,49 +1,14 @@
 -- `entries::meets` meets its contract. Assumes nothing.
-use mathlib.Core.Path.{◌≡◌, refl, ◌∙◌}
-use mathlib.Core.Bool.{◌&&◌}
-use Prim.Native.Nat.{ℕ, ◌^◌, ◌≤◌}
+use mathlib.Core.Path.{ap, ◌∙◌}
 use native.Mathlib.Omega.{arith}
 use lib.Bits.{bit_or}
-use lib.Dec.{eqb}
 use Rattle.bits.specs.Bounds.{gate_places}
-use Rattle.bits.specs.Range.{places, any}
-use Rattle.bits.specs.Bit.{bit, table_of, entry_at}
+use Rattle.bits.specs.Range.{places}
 use Rattle.bits.proofs.Ranges.{places-at}
-use Rattle.entries.specs.By.{delivered_by}
-use Rattle.entries.proofs.Delivery.{by-equality, none_found}
+use Rattle.entries.proofs.Delivery.{by-equality}
 use Rattle.entries.proofs.meets.Goals as goal
-use Rattle.entries.proofs.meets.Goals.{Start}
-
-abbrev met : (s : Start) → ℕ
-met s = let a = s.args in bit_or a.found (table_of (2 ^ a.k) (λ t. any 64 (λ b. bit a.keep b && eqb (entry_at a.k a.ins.now b) t)))
-
-more : (s : Start) (j r : ℕ) → s.args.k ≡ j → j ≤ gate_places → r ≡ delivered_by j s.args.ins.now (places gate_places (λ i. 0)) s.args.keep → bit_or s.args.found r ≡ met s
-more s j r e few given =
-    let a = s.args in
-    by-equality a.k j a.ins.now (places gate_places (λ i. 0)) a.keep r e given a.found (λ i h. places-at 0 gate_places (λ i. 0) i (omega arith))
-
-whole : (s : Start) (r : ℕ) → s.args.k ≤ gate_places → r ≡ bit_or s.args.found (delivered_by s.args.k s.args.ins.now (places gate_places (λ i. 0)) s.args.keep) → r ≡ met s
-whole s r few given = given ∙ more s s.args.k _ refl few refl
-
-pub returns-then-k-eq1 : goal.returns-then-k-eq1
-returns-then-k-eq1 c = more (goal.at.returns-then-k-eq1 c).Start 1 _ (omega arith) (omega arith) c.delivered.ensures
-
-pub returns-then-k-eq2 : goal.returns-then-k-eq2
-returns-then-k-eq2 c = more (goal.at.returns-then-k-eq2 c).Start 2 _ (omega arith) (omega arith) c.delivered-then-k-eq2.ensures
-
-pub returns-then-k-eq3 : goal.returns-then-k-eq3
-returns-then-k-eq3 c = more (goal.at.returns-then-k-eq3 c).Start 3 _ (omega arith) (omega arith) c.delivered-then-k-eq3.ensures
-
-pub returns-then-k-eq4 : goal.returns-then-k-eq4
-returns-then-k-eq4 c = more (goal.at.returns-then-k-eq4 c).Start 4 _ (omega arith) (omega arith) c.delivered-then-k-eq4.ensures
-
-pub returns-then-found-ne0 : goal.returns-then-found-ne0
-returns-then-found-ne0 c = whole (goal.at.returns-then-found-ne0 c).Start c.missing.result (omega arith) c.missing.ensures
-
-pub returns-then-k-eq5 : goal.returns-then-k-eq5
-returns-then-k-eq5 c =
-    none_found c.args.found c.delivered5.result (met (goal.at.returns-then-k-eq5 c).Start) (omega arith) (more (goal.at.returns-then-k-eq5 c).Start 5 c.delivered5.result (omega arith) (omega arith) c.delivered5.ensures)
 
 pub returns : goal.returns
 returns c =
-    none_found c.args.found c.delivered6.result (met (goal.at.returns c).Start) (omega arith) (more (goal.at.returns c).Start 6 c.delivered6.result (omega arith) (omega arith) c.delivered6.ensures)
+    let a = c.args in
+    c.with_delivered.ensures ∙ ap (bit_or a.found) (by-equality a.k a.ins.now (places gate_places (λ i. 0)) a.keep (λ i h. places-at 0 gate_places (λ i. 0) i (omega arith)))
