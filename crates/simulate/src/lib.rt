@@ -106,7 +106,8 @@ fn wide_row(
     });
 }
 
-// The table t at the rows of the fan-ins of gate g, into a lent row.
+// The table t at the rows of the fan-ins of gate g, into a lent row. The closures own what they capture: through references to it, the loop
+// over the words would not be vectorized.
 pub fn lut_row(
     t: u64,
     arity: &[u8; MOST_GATES],
@@ -123,19 +124,19 @@ pub fn lut_row(
     let k = network::place(arity[g]);
     let a = fanin(fanins, g, 0);
     if k == 1 {
-        return fill_row(count, out, |w| bits::lut1(t, word_of(rows, a, w)));
+        return fill_row(count, out, move |w| bits::lut1(t, word_of(rows, a, w)));
     }
     let b = fanin(fanins, g, 1);
     if k == 2 {
         return fill_row(
             count,
             out,
-            |w| bits::lut2(t, word_of(rows, a, w), word_of(rows, b, w)),
+            move |w| bits::lut2(t, word_of(rows, a, w), word_of(rows, b, w)),
         );
     }
     let c = fanin(fanins, g, 2);
     if k == 3 {
-        return fill_row(count, out, |w| {
+        return fill_row(count, out, move |w| {
             bits::lut3(
                 t,
                 word_of(rows, a, w),
@@ -146,7 +147,7 @@ pub fn lut_row(
     }
     let d = fanin(fanins, g, 3);
     if k == 4 {
-        return fill_row(count, out, |w| {
+        return fill_row(count, out, move |w| {
             bits::lut4(
                 t,
                 word_of(rows, a, w),
@@ -198,7 +199,7 @@ fn input_rows(n: usize, count: usize, rows: &mut [u64; SIGNAL_WORDS])
 {
     let mut row = [0u64; ROW_WORDS];
     for i in 0..n {
-        fill_row(count, &mut row, |w| bits::input_word(i, w as u64));
+        fill_row(count, &mut row, move |w| bits::input_word(i, w as u64));
         store_row(rows, i, &row);
     }
 }

@@ -11,5 +11,5 @@ loop-i-preserved c =
     let l = c.loop-i in (
       c.fill_row.ensures.0,
       c.store_row.ensures.0,
-      λ w h. rw (c.store_row.ensures.1 w (omega arith)) (input-step (words_at l.rows w) l.i-counter w _ (omega (arith, words_long l.rows w)) (l.invariant.2 w h) (λ b k. search (rules, c.fill_row.ensures.1 w h))),
+      λ w h. rw (c.store_row.ensures.1 w (omega arith)) (input-step (words_at l.rows w) l.i w _ (omega (arith, words_long l.rows w)) (l.invariant.2 w h) (λ b k. search (rules, c.fill_row.ensures.1 w h))),
     )
