@@ -1,10 +1,10 @@
 // Of the current network: SDC, CDC and full tables, rules 1, 2 and 4, from rows of words. The CDC is request Two's.
 #![tactic(auto)]
 
-ghost use Rattle.std.specs.Prelude.{◌≡◌, ◌&&◌, not, List, ℕ, ◌+◌, ◌*◌, ◌%◌, ◌^◌, ◌<◌, ◌≤◌, eqb, length, get_or};
+ghost use Rattle.std.specs.Prelude.{◌≡◌, ◌&&◌, not, List, ℕ, ◌+◌, ◌*◌, ◌^◌, ◌<◌, ◌≤◌, eqb, length, get_or};
 ghost use Rattle.bits.specs.Bounds.{row_words};
 ghost use Rattle.bits.specs.Range.{any};
-ghost use Rattle.bits.specs.Bit.{bit, differs, table_of, column};
+ghost use Rattle.bits.specs.Bit.{bit, table_of, column};
 ghost use Rattle.bits.specs.Cut.{word_count};
 ghost use Rattle.network.specs.Answer.{Done};
 ghost use Rattle.network.specs.Bounds.{most_gates, most_fanins, most_signals, gate_words};

@@ -4,7 +4,7 @@
 
 ghost use Rattle.std.specs.Prelude.{◌≡◌, ℕ, ◌+◌, ◌/◌, ◌^◌, ◌<◌, ◌≤◌, length, get_or};
 ghost use Rattle.std.specs.Int.Bits.{bit_xor};
-ghost use Rattle.bits.specs.Bounds.{gate_places, small_fanins};
+ghost use Rattle.bits.specs.Bounds.{gate_places};
 ghost use Rattle.bits.specs.Bit.{bit};
 ghost use Rattle.network.specs.Bounds.{most_gates, most_fanins, most_entries, fanin_places};
 ghost use Rattle.edges.specs.Edges.{Edged, SmallEdged, EdgesPut, Constants, Doubled, Halved};

@@ -1,31 +1,18 @@
 // The calls: the stretches of a lent buffer of words. Each gate's words fill their own, ODC first, then H.
 #![tactic(auto)]
 
-ghost use Rattle.std.specs.Prelude.{◌≡◌, ◌++◌, ◌+◌, ◌*◌, ◌<◌, ◌≤◌, length, drop, get_or};
+ghost use Rattle.std.specs.Prelude.{◌≡◌, ◌++◌, ◌+◌, ◌*◌, ◌<◌, ◌≤◌, length, drop};
 ghost use Rattle.bits.specs.Bounds.{row_words};
-ghost use Rattle.bits.specs.Range.{places};
 ghost use Rattle.bits.specs.Cut.{word_count};
 ghost use Rattle.bits.specs.Lists.{overwritten};
 ghost use Rattle.network.specs.Answer.{Done};
-ghost use Rattle.network.specs.Bounds.{most_gates, gate_words};
+ghost use Rattle.network.specs.Bounds.{most_gates};
 ghost use Rattle.network.specs.State.{state_fault};
 ghost use Rattle.network.specs.Calls.{set_words};
 ghost use Rattle.patternsets.specs.Stretches.{row, stretches};
 
 use bits::ROW_WORDS;
 use network::{GATE_WORDS, Session};
-
-// The words of src from place at on, as many as there is room for.
-fn copy(out: &mut [u64], src: &[u64; GATE_WORDS], at: usize)
-    requires { at + length out.old ≤ gate_words }
-    ensures { out.new ≡ places (length out.old) (λ i. get_or src.now (at + i) 0) }
-{
-    let mut i: usize = 0;
-    while i < out.len() {
-        out[i] = src[at + i];
-        i += 1;
-    }
-}
 
 // The stretch of gate g: its words of the one set, then of the other.
 fn fill_gate(
@@ -39,8 +26,10 @@ fn fill_gate(
     ensures { out.new ≡ row odcs.now w g ++ row sets.now w g }
 {
     let at = ROW_WORDS * g;
-    copy(&mut out[0..w], odcs, at);
-    copy(&mut out[w..], sets, at);
+    let end = at + w;
+    let (first, second) = out.split_at_mut(w);
+    first.copy_from_slice(&odcs[at..end]);
+    second.copy_from_slice(&sets[at..end]);
 }
 
 // The stretches of m gates, from the start of the buffer; the words after the last stay.
@@ -54,13 +43,10 @@ fn fill_gates(
     requires { (m ≤ most_gates) × (w ≤ row_words) × (m * (w + w) ≤ length buf.old) }
     ensures { buf.new ≡ stretches odcs.now sets.now w m ++ drop (m * (w + w)) buf.old }
 {
-    let mut a: usize = 0;
-    let mut g: usize = 0;
-    while g < m {
+    for g in 0..m {
+        let a = g * (w + w);
         let e = a + (w + w);
         fill_gate(&mut buf[a..e], odcs, sets, g, w);
-        a = e;
-        g += 1;
     }
 }
 
