@@ -64,10 +64,8 @@ fn put_lines_on(buf: &mut [u8], at: usize, x: usize, n: usize) -> usize
         return buffer::copy(buf, at, b" none");
     }
     let mut a = at;
-    let mut i: usize = 0;
-    while i < n {
+    for i in 0..n {
         a = put_line_on(buf, a, x, i);
-        i += 1;
     }
     a
 }
@@ -194,13 +192,11 @@ fn put_pairs(buf: &mut [u8], at: usize, s: Session, text: &[u8], o: Order) -> us
     let n = ordertext::count(case);
     let digits = tabletext::digits_of(s);
     let mut a = at;
-    let mut i: usize = 0;
-    while i < n {
+    for i in 0..n {
         let gate = o.gates[i];
         let table = o.tables[i];
         let name = ordertext::name(text, o, i);
         a = put_pair(buf, a, s, name, gate, table, digits);
-        i += 1;
     }
     a
 }

@@ -32,9 +32,6 @@ pub laid_next : {b b₁ b₂ : List ℕ} {at r₁ r₂ : ℕ} (f g : ℕ → Lis
     → Laid b at (f (c + 1)) b₂ r₂
 laid_next f g c e p q = rw (add-one c, e) (laid-append p q)
 
-pub laid-until : {b b₁ : List ℕ} {at r : ℕ} (f : ℕ → List ℕ) (c d : ℕ) → c ≡ d → Laid b at (f c) b₁ r → Laid b at (f d) b₁ r
-laid-until f c d e l = rw e at l
-
 -- ## Names
 
 -- a number of two digits at the most

@@ -3,8 +3,6 @@
 
 ghost use Rattle.std.specs.Prelude.{◌≡◌, ℕ, ◌+◌, ◌*◌, ◌^◌, ◌<◌, ◌≤◌, length, get_or};
 ghost use Rattle.bits.specs.Bounds.{most_inputs};
-ghost use Rattle.bits.specs.Range.{num};
-ghost use Rattle.bits.specs.Bit.{bit};
 ghost use Rattle.buffer.specs.Laid.{Laid};
 ghost use Rattle.network.specs.Answer.{Done};
 ghost use Rattle.network.specs.Bounds.{most_outputs, most_fanins, most_signals, most_entries};
@@ -42,35 +40,21 @@ fn put_names(buf: &mut [u8], at: usize, xs: &[u8]) -> usize
     ensures { Laid buf.old at (names_bytes (length xs.now) (λ i. get_or xs.now i 0)) buf.new result }
 {
     let mut a = at;
-    let mut i: usize = 0;
-    while i < xs.len() {
-        a = put_name(buf, a, xs[i]);
-        i += 1;
+    for x in xs {
+        a = put_name(buf, a, *x);
     }
     a
 }
 
-// What a row has for fan-in r of entry t.
-fn mark(t: u64, r: u64) -> u8
-    requires { r < 64 }
-    ensures { result ≡ 0x30 + num (bit t r) }
-{
-    if bits::bit_of(t, r) {
-        return b'1';
-    }
-    b'0'
-}
-
+// What a row has for each fan-in of entry t.
 fn put_marks(buf: &mut [u8], at: usize, k: u64, t: u64) -> usize
     requires { (k ≤ most_fanins) × (at + k ≤ length buf.old) }
     ensures { Laid buf.old at (marks k t) buf.new result }
 {
     let mut a = at;
-    let mut r: u64 = 0;
-    while r < k {
-        buf[a] = mark(t, r);
+    for r in 0..k {
+        buf[a] = b'0' + u8::from(bits::bit_of(t, r));
         a += 1;
-        r += 1;
     }
     a
 }
@@ -100,10 +84,8 @@ fn put_cover(buf: &mut [u8], at: usize, k: u64, table: u64) -> usize
 {
     let c = bits::power(k);
     let mut a = at;
-    let mut t: u64 = 0;
-    while t < c {
+    for t in 0..c {
         a = put_entry(buf, a, k, table, t);
-        t += 1;
     }
     a
 }
@@ -132,18 +114,16 @@ fn put_blocks(buf: &mut [u8], at: usize, s: Session) -> usize
     requires { Ready s × (at + most_block_bytes * s.m ≤ length buf.old) }
     ensures { Laid buf.old at (blocks_bytes s s.m) buf.new result }
 {
-    let m = s.m as usize;
+    let m = usize::from(s.m);
     let arity = s.arity;
     let fanins = s.fanins;
     let current = s.current;
     let mut a = at;
-    let mut g: usize = 0;
-    while g < m {
+    for g in 0..m {
         let b = GATE_PLACES * g;
-        let e = b + (arity[g] as usize);
+        let e = b + usize::from(arity[g]);
         let x = s.n + (g as u8);
         a = put_block(buf, a, &fanins[b..e], x, current[g]);
-        g += 1;
     }
     a
 }
@@ -154,10 +134,8 @@ fn put_inputs(buf: &mut [u8], at: usize, n: u8) -> usize
     ensures { Laid buf.old at (names_bytes n (λ i. i)) buf.new result }
 {
     let mut a = at;
-    let mut i: u8 = 0;
-    while i < n {
+    for i in 0..n {
         a = put_name(buf, a, i);
-        i += 1;
     }
     a
 }

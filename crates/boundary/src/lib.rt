@@ -25,10 +25,8 @@ pub fn put_counts(counts: &[u16], out: &mut [u64])
     requires { length counts.now ≤ length out.old }
     ensures { out.new ≡ overwritten counts.now out.old }
 {
-    let mut i: usize = 0;
-    while i < counts.len() {
-        out[i] = counts[i] as u64;
-        i += 1;
+    for (i, c) in counts.iter().enumerate() {
+        out[i] = u64::from(*c);
     }
 }
 
@@ -90,16 +88,14 @@ pub fn put_tables(s: Session, out: &mut [u64])
     requires { (state_fault s ≡ Done) × (tables_room * s.m ≤ length out.old) }
     ensures { out.new ≡ overwritten (all_table_words s s.m) out.old }
 {
-    let m = s.m as usize;
+    let m = usize::from(s.m);
     let t = dontcares::all_tables(s);
     let opens = s.open_tables;
     let cdc = t.cdc;
     let full = t.full;
-    let mut g: usize = 0;
-    while g < m {
+    for g in 0..m {
         let d = dontcares::sdc(s, g);
         let row = [d.low, d.high, cdc[g], full[g], opens[g]];
         buffer::lay_words(out, TABLES_ROOM * g, &row);
-        g += 1;
     }
 }

@@ -1,14 +1,14 @@
 -- Words read place after place, and tested one after the other. Assumes nothing.
 use mathlib.Core.Path.{◌≡◌, refl, sym, ap, ◌∙◌}
 use mathlib.Core.Bool.{Bool, true, false, ◌&&◌}
-use mathlib.Core.List.{List, [], ◌∷◌, ◌++◌, append_assoc, append-nil}
+use mathlib.Core.List.{List, [], ◌∷◌, ◌++◌, append_assoc}
 use Prim.Native.Nat.{ℕ, zero, suc, ◌+◌, ◌-◌, ◌≤◌, ◌<◌}
 use native.Mathlib.Numerals.{add-one}
 use native.Mathlib.Omega.{arith}
 use lib.Bits.{bit_or, or_lt, or_add_and, and_le_l, and_le_r}
 use lib.Dec.{ltb}
 use lib.ListN.{length, get_or, take, drop, set, length-append, length-drop}
-use lib.Seq.{take-suc, drop-cons, drop-length, get_or-drop, set_at, length-take-le}
+use lib.Seq.{take-suc, drop-cons, get_or-drop, set_at, length-take-le}
 use borrow.Author.Tests.{lt-ltb, le-ltb, ltb-true}
 use Rattle.bits.specs.Range.{every}
 use Rattle.bits.proofs.Ranges.{and_l, and_r, and_i, and-true, and_assoc, iff}
@@ -40,9 +40,6 @@ module _ (ws b₀ b : List ℕ) (at i : ℕ) (e : b ≡ part ws at i ++ drop i b
       ap (λ (l : List ℕ). set l i x) (rw (drop-cons b₀ i 0 h) at e)
       ∙ set_at (part ws at i) (get_or b₀ i 0) (drop (suc i) b₀) x i (length_part ws at i (omega arith))
       ∙ sym (rw (part-more ws at i (omega arith), add-one) (append_assoc (part ws at i) (x ∷ []) (drop (suc i) b₀)))
-
-  pub read_all : i ≡ length b₀ → b ≡ part ws at (length b₀)
-  read_all h = rw h at e ∙ rw (drop-length, append-nil)
 
 -- ## Testing
 

@@ -90,10 +90,8 @@ fn fit(words: &[u64], c: usize) -> bool
     ensures { result ≡ every c (λ i. ltb (get_or words.now i 0) 256) }
 {
     let mut acc: u64 = 0;
-    let mut i: usize = 0;
-    while i < c {
-        acc = acc | words[i];
-        i += 1;
+    for i in 0..c {
+        acc |= words[i];
     }
     acc < 256
 }
@@ -104,10 +102,8 @@ fn read_bytes(words: &[u64], at: usize, bytes: &mut [u8])
     requires by_index { (i : ℕ) → i < length bytes.old → get_or words.now (at + i) 0 < 256 }
     ensures { bytes.new ≡ part words.now at (length bytes.old) }
 {
-    let mut i: usize = 0;
-    while i < bytes.len() {
-        bytes[i] = words[at + i] as u8;
-        i += 1;
+    for (i, b) in bytes.iter_mut().enumerate() {
+        *b = words[at + i] as u8;
     }
 }
 
@@ -115,11 +111,8 @@ fn read_words(words: &[u64], at: usize, new: &mut [u64])
     requires { at + length new.old ≤ length words.now }
     ensures { new.new ≡ part words.now at (length new.old) }
 {
-    let mut i: usize = 0;
-    while i < new.len() {
-        new[i] = words[at + i];
-        i += 1;
-    }
+    let end = at + new.len();
+    new.copy_from_slice(&words[at..end]);
 }
 
 // The session that words hold, where each of those that hold bytes fits in one.

@@ -59,10 +59,8 @@ fn put_rows(buf: &mut [u8], at: usize, t: Columns) -> usize
 {
     let m = t.m;
     let mut a = at;
-    let mut g: usize = 0;
-    while g < m {
+    for g in 0..m {
         a = put_row(buf, a, t, g);
-        g += 1;
     }
     a
 }
@@ -80,10 +78,8 @@ fn set_in(tables: [u64; MOST_GATES], m: usize) -> u64
     ensures { (result ≡ set_in tables m) × (result ≤ most_gates * most_entries) }
 {
     let mut sum: u64 = 0;
-    let mut g: usize = 0;
-    while g < m {
+    for g in 0..m {
         sum += entries_in(tables[g]);
-        g += 1;
     }
     sum
 }

@@ -8,7 +8,7 @@ use Rattle.ordertext.specs.declared.Order.{Order}
 use Rattle.ordertext.specs.Order.{most_pairs}
 use Rattle.ordertext.specs.Reads.{pair_in, count_in, pairs_given, Reads}
 use Rattle.ordertext.proofs.Given.{given-few, given-length, given-signal}
-use Rattle.buffer.proofs.Laying.{pending-start, pending-room, pending-step, pending_done}
+use Rattle.buffer.proofs.Laying.{pending-room, pending-step, pending_done}
 use Rattle.desk.specs.Answer.{pair_line, pair_lines}
 use Rattle.answertext.proofs.Printed.{given-shown, given-line, pairs-done}
 use Rattle.answertext.proofs.put_pairs.Goals as goal
@@ -22,9 +22,6 @@ placed text o n i r e t = let f = given-few text o r in omega arith
 
 pub digits_of-digits-requires : goal.digits_of-digits-requires
 digits_of-digits-requires c = c.requires.1.gates
-
-pub loop-i-init : goal.loop-i-init
-loop-i-init c = (omega arith, pending-start _ _ _)
 
 pub offset_bounds-o-i : goal.offset_bounds-o-i
 offset_bounds-o-i c = let h = placed c.args.text.now c.args.o c.count-n.result c.loop-i.i c.requires.0 c.count-n.ensures c.loop-i-test.true in omega arith
@@ -53,7 +50,7 @@ put_pair-a-requires c =
       gate_value = (given-signal text x.o r i t, c.digits_of-digits.ensures);
       shown = (
         given-shown text x.o r x.s i t c.requires.1,
-        pending-room (pair_line x.s (pair_in text x.o i)) todo c.loop-i.invariant.1 (given-line text x.o r x.s i t) c.requires.2,
+        pending-room (pair_line x.s (pair_in text x.o i)) todo c.loop-i.invariant (given-line text x.o r x.s i t) c.requires.2,
       );
     }
 
@@ -64,19 +61,14 @@ loop-i-preserved c =
     let r = c.requires.0 in
     let i = c.loop-i.i in
     let k = c.loop-i-test.true in
-    let t = turn x.o c.count-n.result i c.count-n.ensures k in (
-      omega arith,
-      pending-step {xs = pair_line x.s (pair_in text x.o i)} (pair_lines x.s (drop (i + 1) (pairs_given text x.o))) c.loop-i.invariant.1
-          (given-line text x.o r x.s i t)
-          (rw c.name-name.ensures at c.put_pair-a.ensures),
-    )
-
-pub shape_of-buf : goal.shape_of-buf
-shape_of-buf c = c.loop-i.invariant.1.long
+    let t = turn x.o c.count-n.result i c.count-n.ensures k in
+    pending-step {xs = pair_line x.s (pair_in text x.o i)} (pair_lines x.s (drop (i + 1) (pairs_given text x.o))) c.loop-i.invariant
+    (given-line text x.o r x.s i t)
+    (rw c.name-name.ensures at c.put_pair-a.ensures)
 
 pub returns : goal.returns
 returns c =
     let h = c.loop-i in
     let e = c.count-n.ensures in
     let n = given-length c.args.text.now c.args.o c.requires.0 in
-    pending_done h.invariant.1 (pairs-done c.args.s (pairs_given c.args.text.now c.args.o) h.i (omega arith))
+    pending_done h.invariant (pairs-done c.args.s (pairs_given c.args.text.now c.args.o) h.i (omega arith))

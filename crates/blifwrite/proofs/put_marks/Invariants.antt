@@ -1,10 +1,6 @@
-use Prim.Native.Nat.{◌-◌, ◌≤◌}
 use Rattle.buffer.specs.Laid.{Laid}
 use Rattle.blif.specs.Write.{marks}
 use Rattle.blifwrite.proofs.put_marks.Given as goal
 
 abbrev pub invariant-loop-r : goal.invariant-loop-r
-invariant-loop-r l = (l.r ≤ l.k) × Laid l.initial.buf l.at (marks l.r l.t) l.buf l.a
-
-abbrev pub decreases-loop-r : goal.decreases-loop-r
-decreases-loop-r l = l.k - l.r
+invariant-loop-r l = Laid l.initial.buf l.at (marks l.r l.t) l.buf l.a

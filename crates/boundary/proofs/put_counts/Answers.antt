@@ -1,19 +1,11 @@
 -- `boundary::put_counts`: what is left to lay are the counts not passed. Assumes nothing.
 use native.Mathlib.Omega.{arith}
-use mir.Facts.{Fits-widen}
-use Rattle.buffer.proofs.Laying.{laid-start, pending-start, lay-more, lay-all}
+use lib.ListN.{drop_of_length-le}
+use Rattle.buffer.proofs.Laying.{laid-start, pending_done}
 use Rattle.boundary.proofs.put_counts.Goals as goal
-
-pub loop-i-init : goal.loop-i-init
-loop-i-init c = (omega arith, pending-start _ _ _)
-
-pub overflow_cast-out : goal.overflow_cast-out
-overflow_cast-out c = Fits-widen tt (c.shared_slice_known-1.given _)
-
-pub loop-i-preserved : goal.loop-i-preserved
-loop-i-preserved c = (omega arith, lay-more c.loop-i.i c.loop-i.invariant.1 (omega arith))
 
 pub returns : goal.returns
 returns c =
-    let a = c.args in
-    (laid-start a.out.now a.counts.now _ _ c.requires (lay-all c.loop-i.i c.loop-i.invariant.1 (omega arith))).1
+    let counts = c.args.counts.now in
+    let l = c.loop-i in
+    (laid-start c.args.out.now counts l.out l.i c.requires (pending_done l.invariant (drop_of_length-le counts {i = l.i} (omega arith)))).1

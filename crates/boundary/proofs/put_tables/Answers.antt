@@ -1,7 +1,6 @@
 -- `boundary::put_tables`: the rows of the gates passed are laid. Assumes nothing.
 use mathlib.Core.Path.{refl}
 use native.Mathlib.Omega.{arith}
-use Rattle.buffer.proofs.Laying.{laid-length}
 use Rattle.network.specs.Bounds.{most_gates}
 use Rattle.network.proofs.TestLaws.{count-e}
 use Rattle.network.proofs.Valid.{valid-e}
@@ -14,23 +13,20 @@ all_tables-t-requires c = c.requires.0
 pub loop-g-init : goal.loop-g-init
 loop-g-init c =
     let n = count-e most_gates c.args.s.m (valid-e c.args.s c.requires.0).gates in
-    (omega arith, omega arith, record { buffer = refl; behind = refl })
+    (omega arith, record { buffer = refl; behind = refl })
 
 pub sdc-d-requires : goal.sdc-d-requires
 sdc-d-requires c = record { s_value = c.requires.0; g_lt_m = omega arith }
 
 pub lay_words-requires : goal.lay_words-requires
 lay_words-requires c =
-    row_room c.args.s c.loop-g.g c.loop-g.invariant.2 (omega arith) (omega arith)
+    row_room c.args.s c.loop-g.g c.loop-g.invariant.1 (omega arith) (omega arith)
 
 pub loop-g-preserved : goal.loop-g-preserved
 loop-g-preserved c =
     let s = c.args.s in
-    (omega arith, c.loop-g.invariant.1, row_next s c.loop-g.g c.loop-g.invariant.2 c.all_tables-t.ensures (omega arith) c.sdc-d.ensures c.lay_words.ensures)
-
-pub shape_of-out : goal.shape_of-out
-shape_of-out c = laid-length c.loop-g.invariant.2
+    (c.loop-g.invariant.0, row_next s c.loop-g.g c.loop-g.invariant.1 c.all_tables-t.ensures (omega arith) c.sdc-d.ensures c.lay_words.ensures)
 
 pub returns : goal.returns
 returns c =
-    rows-done c.args.s c.loop-g.g c.loop-g.invariant.2 (omega arith) (omega arith)
+    rows-done c.args.s c.loop-g.g c.loop-g.invariant.1 (omega arith) (omega arith)

@@ -7,9 +7,9 @@ use Rattle.render.proofs.set_in.Goals as goal
 pub loop-g-preserved : goal.loop-g-preserved
 loop-g-preserved c =
     let e = set_next c.args.tables c.loop-g.g in
-    (omega arith, rw (c.loop-g.invariant.1, c.entries_in-sum.ensures.0) (sym e), omega arith)
+    (rw (c.loop-g.invariant.0, c.entries_in-sum.ensures.0) (sym e), omega arith)
 
 pub returns : goal.returns
 returns c =
     let e : c.args.m ≡ c.loop-g.g = omega arith in
-    (rw e c.loop-g.invariant.1, omega arith)
+    (rw e c.loop-g.invariant.0, omega arith)
