@@ -5,9 +5,9 @@ use mathlib.Core.List.{List, [], ◌∷◌, ◌++◌, map}
 use Prim.Native.Nat.{ℕ, ◌+◌, ◌-◌, ◌≤◌, ◌<◌}
 use native.Mathlib.Nat.{sub-zero}
 use native.Mathlib.Omega.{arith}
-use lib.ListN.{length, get_or, take, drop, set, length-map, length-set}
+use lib.ListN.{length, get_or, take, drop, set, length-map}
 use lib.Seq.{set-set, length-take-le, get_or-set_same}
-use borrow.Author.Tests.{le-leb, lt-leb}
+use borrow.Author.Tests.{le-leb}
 use Rattle.bits.specs.Bounds.{gate_places}
 use Rattle.network.specs.declared.Answer.{Answer}
 use Rattle.network.specs.declared.Answer.TheVariants.{Done, Refused}
@@ -63,17 +63,6 @@ module _ (signals outputs : List Text) (t : Session) (rows : List Text) (digit :
 
 -- ## One line of the loop
 
-pub left-start : (text : Text) (outputs : List Text) (t : Session) (ns : Names) (at : ℕ) → at ≤ length text → t.m ≡ 0 → Fits text t ns
-    → Left text outputs t ns at (read_blocks (draft_of (signals_at text t ns) outputs t [] 0) (statements (drop at text)))
-left-start text outputs t ns at l e f = record {
-  rows = [];
-  digit = 0;
-  place = l;
-  fits = f;
-  other = rw (lt-leb 1 t.m (omega arith));
-  reads = refl;
-}
-
 module _ (text : Text) (outputs : List Text) (t : Session) (ns : Names) (i : ℕ) (answer : Loaded) (H : Left text outputs t ns i answer) where
   abbrev signals : List Text
   signals = signals_at text t ns
@@ -122,9 +111,6 @@ block-facts signals m line e =
 module _ (signals : List Text) (t : Session) (line : List Text) (a : Answer) (e : a ≡ first (block_tests_of signals t.m line)) where
   pub gate-refused : (r : Refusal) → a ≡ Refused r → load_refused r ≡ gate_of signals t line
   gate-refused r z = rw (sym e ∙ z)
-
-  pub gate-done : (u : Session) → a ≡ Done → u ≡ with_fanins t (map (place_in signals) (fanin_names (names line))) → load_done u ≡ gate_of signals t line
-  gate-done u z q = rw (sym e ∙ z, q)
 
 gate-answer : (a : Answer) (u : Session) → (onward a (load_done u)).answer ≡ a
 gate-answer Done u = refl
@@ -243,9 +229,6 @@ module _ (text : Text) (l : Line) (t : Session) (ns : Names) (F : Fits text t ns
 
     pub facts : (2 ≤ length (names (fields (drop l.at (take (l.end - 0) text))))) × (t.m < most_gates)
     facts = let f = block-facts held t.m line passes_of in (rw (sub-zero l.end) f.0, f.2)
-
-    pub arity-long : length t.arity ≡ most_gates → length x.session.arity ≡ most_gates
-    arity-long a = ap (λ (u : Session). length u.arity) (session-of x q z) ∙ length-set t.arity t.m (length fs) ∙ a
 
     pub arity-few : length t.arity ≡ most_gates → get_or x.session.arity t.m 0 ≤ gate_places
     arity-few a =

@@ -3,7 +3,6 @@ use mathlib.Core.Path.{◌≡◌, refl, sym, ap, ◌∙◌}
 use mathlib.Core.List.{List, [], ◌∷◌}
 use Prim.Native.Nat.{ℕ, ◌-◌, ◌≤◌}
 use native.Mathlib.Nat.{sub-zero, add-zero}
-use native.Mathlib.Omega.{arith}
 use lib.ListN.{length, take, drop}
 use Rattle.bits.specs.Bounds.{most_inputs}
 use Rattle.network.specs.declared.Answer.{Answer}
@@ -14,19 +13,18 @@ use Rattle.network.specs.declared.Loaded.{Loaded}
 use Rattle.network.specs.declared.Session.{Session}
 use Rattle.network.specs.Bounds.{most_outputs}
 use Rattle.network.specs.Tests.{first}
-use Rattle.network.specs.Load.{load_refused, onward, started}
-use Rattle.network.proofs.TestLaws.{refused-done, clear-e, count-e}
+use Rattle.network.specs.Load.{load_refused, started}
+use Rattle.network.proofs.TestLaws.{clear-e, count-e}
 use Rattle.text.specs.Ascii.{ascii}
 use Rattle.text.specs.Words.{Text}
 use Rattle.blif.specs.Text.{statements}
 use Rattle.blif.specs.Read.{names, names_tests, model_test, begun, read_blocks, read_outputs, read_inputs, read_model, read_blif}
-use Rattle.bliftext.specs.Named.{names_at, Inside}
+use Rattle.bliftext.specs.Named.{names_at}
 use Rattle.blifline.specs.declared.Names.{Names}
-use Rattle.blifline.specs.Lines.{Named, Held}
+use Rattle.blifline.specs.Lines.{Held}
 use Rattle.blifline.proofs.Holds.{held-wide}
 use Rattle.blifread.specs.declared.Listed.{Listed}
-use Rattle.blifread.specs.Drafts.{draft_of, signals_at, Fits, names_line, ListedAt}
-use Rattle.blifread.proofs.Steps.{part-zero, part_length}
+use Rattle.blifread.specs.Drafts.{draft_of, signals_at, names_line, ListedAt}
 
 -- ## A line of names
 
@@ -42,22 +40,9 @@ pub held-names : (text : Text) (h : ℕ) (S E : List ℕ) (p : ℕ) (fs ws : Lis
 held-names text h S E p fs ws l g e = rw e at (held-wide text h S E p fs l (rw (sub-zero h) at g))
 
 module _ (word : Text) (most : ℕ) (more : List Text → List (List Text) → Loaded) (ss : List (List Text)) where
-  pub line-none : ss ≡ [] → load_refused OutsideSubset ≡ names_line word most more ss
-  line-none e = rw e
-
   module _ (line : List Text) (rest : List (List Text)) (e : ss ≡ line ∷ rest) (a : Answer) (q : a ≡ first (names_tests word most line)) where
-    pub line_refused : (r : Refusal) → a ≡ Refused r → load_refused r ≡ names_line word most more ss
-    line_refused r z = rw (e, sym q ∙ z)
-
     pub line-done : a ≡ Done → more (names line) rest ≡ names_line word most more ss
     line-done z = rw (e, sym q ∙ z)
-
-pub none-listed : (text : Text) (at : ℕ) (word : Text) (most : ℕ) (x : Listed) (r : Refusal) → x.answer ≡ Refused r
-    → ((more : List Text → List (List Text) → Loaded) → load_refused r ≡ names_line word most more (statements (drop at text))) → ListedAt text at word most x
-none-listed text at word most x r z f = record {
-  refused = λ q w more. ap (λ (a : Answer). onward a (load_refused r)) (sym w ∙ z) ∙ f more;
-  given = λ d. refused-done r (sym z ∙ d);
-}
 
 inputs-line : (ss : List (List Text)) → names_line (ascii ".inputs") most_inputs read_outputs ss ≡ read_inputs ss
 unfolding read_inputs
@@ -74,16 +59,6 @@ outputs-line ins (line ∷ rest) = refl
 module _ (text : Text) (at : ℕ) (x : Listed) (X : ListedAt text at (ascii ".outputs") most_outputs x) where
   pub outputs-refused : (ins : List Text) (r : Refusal) → x.answer ≡ Refused r → load_refused r ≡ read_outputs ins (statements (drop at text))
   outputs-refused ins r z = X.refused r z (λ outs. read_blocks (begun ins outs)) ∙ outputs-line ins (statements (drop at text))
-
-  -- the names of the outputs, as the code lends them
-  pub outputs-named : x.answer ≡ Done → x.count ≤ length x.names.starts → x.count ≤ length x.names.ends
-      → Named text (take (x.count - 0) x.names.starts) (take (x.count - 0) x.names.ends) × (length (take (x.count - 0) x.names.starts) ≤ most_outputs)
-  outputs-named z s e =
-      let g = X.given z in
-      let f = g.few in
-      let p = part_length x.count (length x.names.starts) x.names.starts refl s in
-      let q = part_length x.count (length x.names.ends) x.names.ends refl e in
-      ((rw (part-zero x.count x.names.starts, part-zero x.count x.names.ends) g.held.inside, p ∙ sym q), omega arith)
 
   pub outputs-done : (ins : List Text) (ns : Names) (n : ℕ) (t : Session) (r : Loaded) → x.answer ≡ Done → Held text ns.starts ns.ends n ins → t ≡ started n 0 x.count
       → r ≡ read_blocks (draft_of (signals_at text t ns) (names_at text (take (x.count - 0) x.names.starts) (take (x.count - 0) x.names.ends)) t [] 0) (statements (drop x.next text))
@@ -103,10 +78,6 @@ module _ (text : Text) (at : ℕ) (x : Listed) (X : ListedAt text at (ascii ".ou
       ∙ ap (λ (k : ℕ). read_blocks (draft_of ins g.listed (started k 0 p) [] 0) rest) (sym h.many)
       ∙ ap (λ (k : ℕ). read_blocks (draft_of ins g.listed (started (length ins) 0 k) [] 0) rest) (sym g.held.many)
       ∙ g.reads (λ outs. read_blocks (begun ins outs)) ∙ outputs-line ins (statements (drop at text))
-
-pub started-fits : (text : Text) (t : Session) (ns : Names) (n p : ℕ) → t ≡ started n 0 p → n ≤ most_inputs → Inside text (take n ns.starts) (take n ns.ends)
-    → (t.m ≡ 0) × Fits text t ns
-started-fits text t ns n p e l i = rw e (refl, record { inputs = l; gates = omega arith; inside = rw (add-zero n) i })
 
 -- ## `.inputs`
 
