@@ -1,6 +1,6 @@
 -- The rows of a block, line after line. Assumes nothing.
 use mathlib.Core.Path.{◌≡◌, refl, sym, ap, ◌∙◌}
-use mathlib.Core.Bool.{true, false}
+use mathlib.Core.Bool.{true}
 use mathlib.Core.List.{List, [], ◌∷◌, ◌++◌}
 use Prim.Native.Nat.{ℕ, ◌-◌, ◌≤◌}
 use native.Mathlib.Omega.{arith}
@@ -8,7 +8,6 @@ use lib.ListN.{length, get_or, drop}
 use lib.Seq.{set-set}
 use borrow.Author.Tests.{le-leb}
 use Rattle.bits.specs.Bounds.{gate_places}
-use Rattle.bits.proofs.Ranges.{by_cases}
 use Rattle.network.specs.declared.Session.{Session}
 use Rattle.text.specs.Ascii.{ascii}
 use Rattle.text.specs.Words.{Text}
@@ -18,8 +17,8 @@ use Rattle.blif.specs.Read.{last_arity, with_table, read_blocks}
 use Rattle.blifline.specs.declared.Cover.{Cover}
 use Rattle.blifline.specs.Rows.{is_row_of, RowRead}
 use Rattle.blifline.proofs.Covers.{cover-empty}
-use Rattle.blifline.proofs.Tests.{row-closed, row-some, row-given, row-digit-is}
-use Rattle.blifread.specs.Drafts.{draft_of, line_at, RowsTo}
+use Rattle.blifline.proofs.Tests.{row-closed, row-given, row-digit-is}
+use Rattle.blifread.specs.Drafts.{draft_of, RowsTo}
 
 pub table-twice : (t : Session) (g x y : ℕ) → with_table (with_table t g x) g y ≡ with_table t g y
 table-twice t g x y = rw (set-set t.loaded g x y, set-set t.current g x y)
@@ -69,13 +68,3 @@ module _ (text : Text) (at k : ℕ) where
               ∙ sym (ap (read_blocks (draft_of signals outputs v H.rows digit)) e)
               ∙ H.reads signals outputs u some a;
         }
-
-    -- the line is no row
-    pub rows_other : x.digit ≡ 0 → is_row_of k digit (line_at text i) ≡ false
-    rows_other z =
-        ap (λ (ss : List (List Text)). is_row_of k digit (get_or ss 0 [])) e
-        ∙ by_cases (is_row_of k digit line) (λ t. absurd (row-some k digit line t (sym (row-digit-is k digit line t) ∙ sym row.digit-is ∙ z))) (λ f. f)
-
--- no line is left
-pub rows-stop : (text : Text) (k digit i : ℕ) → statements (drop i text) ≡ [] → is_row_of k digit (line_at text i) ≡ false
-rows-stop text k digit i e = ap (λ (ss : List (List Text)). is_row_of k digit (get_or ss 0 [])) e

@@ -4,7 +4,6 @@
 
 use network::DECIDING_BYTES;
 use render::MOST_LISTING_BYTES;
-use streams::Taken;
 
 fn print_listing(rt: HostRuntime, file: &[u8]) {
     let mut text = [0u8; MOST_LISTING_BYTES];
@@ -14,10 +13,9 @@ fn print_listing(rt: HostRuntime, file: &[u8]) {
 
 fn main(rt: HostRuntime) {
     let mut file = [0u8; DECIDING_BYTES];
-    let input = streams::read_all(&mut rt.stdin(), &mut file);
-    match input {
-        Taken::Bytes(n) => print_listing(rt, &file[..n]),
-        Taken::Failed => {
+    match streams::read_from(&mut rt.stdin(), &mut file) {
+        Ok(n) => print_listing(rt, &file[..n]),
+        Err(_) => {
             streams::print(rt, b"cannot read the input\n");
         }
     }

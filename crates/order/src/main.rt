@@ -4,17 +4,15 @@
 // opened gets its number, and the answer would be written into it.
 #![tactic(auto)]
 
-ghost use Rattle.std.specs.Prelude.{◌≤◌, length, IfOk};
+ghost use Rattle.std.specs.Prelude.{◌≤◌, length, IfSome, IfOk};
 ghost use Rattle.ordertext.specs.Order.{most_order_bytes};
 ghost use Rattle.answertext.specs.Answers.{Asks};
-ghost use Rattle.streams.specs.Taken.{Within};
 
 use network::{DECIDING_BYTES, MOST_FILE_BYTES};
 use ordertext::{Case, MOST_ORDER_BYTES, Order};
 use std::env::{Env, FillError};
 use std::fs::{self, File, OpenOptions};
 use std::io::{self, Write};
-use streams::Taken;
 
 // Room for every answer to such an order.
 const ANSWER_BYTES: usize = 4096;
@@ -63,35 +61,27 @@ fn fail(rt: HostRuntime, what: &[u8], error: io::Error) {
 }
 
 // A space and argument i, from place at on.
-fn put_word(rt: HostRuntime, text: &mut [u8], at: usize, i: usize) -> Taken
-    ensures { Within result (length text.new) }
+fn put_word(rt: HostRuntime, text: &mut [u8], at: usize, i: usize) -> Option<usize>
+    ensures { IfSome result (λ n. n ≤ length text.new) }
 {
     if text.len() <= at {
-        return Taken::Failed;
+        return None;
     }
     let a = at + 1;
-    let Ok(n) = rt.arg(i, &mut text[a..]) else {
-        return Taken::Failed;
-    };
+    let n = rt.arg(i, &mut text[a..]).ok()?;
     text[at] = b' ';
-    Taken::Bytes(a + n)
+    Some(a + n)
 }
 
 // The order's text: each argument behind BOARD and before argument end, behind a space.
-fn collect(rt: HostRuntime, text: &mut [u8], end: usize) -> Taken
-    ensures { Within result (length text.new) }
+fn collect(rt: HostRuntime, text: &mut [u8], end: usize) -> Option<usize>
+    ensures { IfSome result (λ n. n ≤ length text.new) }
 {
     let mut at: usize = 0;
-    let mut i: usize = 2;
-    while i < end {
-        let t = put_word(rt, text, at, i);
-        let Taken::Bytes(n) = t else {
-            return Taken::Failed;
-        };
-        at = n;
-        i += 1;
+    for i in 2..end {
+        at = put_word(rt, text, at, i)?;
     }
-    Taken::Bytes(at)
+    Some(at)
 }
 
 // The name of a file: the system's files have names in UTF-8 here.
@@ -111,14 +101,14 @@ fn read_file(rt: HostRuntime, path: &[u8], file: &mut [u8]) -> io::Result<usize>
 }
 
 // The board's first bytes. Where it cannot be opened or read, why is told.
-fn read_board(rt: HostRuntime, board: &[u8], file: &mut [u8]) -> Taken
-    ensures { Within result (length file.new) }
+fn read_board(rt: HostRuntime, board: &[u8], file: &mut [u8]) -> Option<usize>
+    ensures { IfSome result (λ n. n ≤ length file.new) }
 {
     match read_file(rt, board, file) {
-        Ok(n) => Taken::Bytes(n),
+        Ok(n) => Some(n),
         Err(error) => {
             fail(rt, board, error);
-            Taken::Failed
+            None
         }
     }
 }
@@ -194,8 +184,7 @@ fn ask(rt: HostRuntime, board: &[u8], text: &[u8], o: Order, target: &[u8])
     requires { Asks text.now o }
 {
     let mut file = [0u8; DECIDING_BYTES];
-    let t = read_board(rt, board, &mut file);
-    if let Taken::Bytes(n) = t {
+    if let Some(n) = read_board(rt, board, &mut file) {
         respond(rt, &file[..n], text, o, target);
     }
 }
@@ -223,10 +212,9 @@ fn parse(rt: HostRuntime, board: &[u8], text: &[u8], target: &[u8])
 // The order stands behind BOARD and before argument end. An empty target stands for none.
 fn take_order(rt: HostRuntime, board: &[u8], end: usize, target: &[u8]) {
     let mut text = [0u8; MOST_ORDER_BYTES];
-    let t = collect(rt, &mut text, end);
-    match t {
-        Taken::Bytes(n) => parse(rt, board, &text[..n], target),
-        Taken::Failed => streams::tell(rt, b"the order is too long\n"),
+    match collect(rt, &mut text, end) {
+        Some(n) => parse(rt, board, &text[..n], target),
+        None => streams::tell(rt, b"the order is too long\n"),
     }
 }
 

@@ -1,6 +1,6 @@
 -- Bytes by kind, and digits. Assumes nothing.
 use mathlib.Core.Path.{◌≡◌, sym, ap, ◌∙◌}
-use mathlib.Core.Bool.{Bool, true, false, not, cond, ◌&&◌, beq}
+use mathlib.Core.Bool.{Bool, true, false, cond, ◌&&◌}
 use Prim.Native.Nat.{ℕ, zero, suc, ◌+◌, ◌-◌, ◌*◌, ◌^◌, ◌≤◌, ◌<◌}
 use native.Mathlib.Omega.{arith}
 use native.Mathlib.Numerals.{add-one}
@@ -11,17 +11,7 @@ use borrow.Author.Tests.{leb-true, ltb-true, le-leb, lt-leb}
 use Rattle.bits.proofs.Ranges.{and_l, and_r}
 use Rattle.text.specs.Words.{Text, between, is_printing, all}
 use Rattle.text.proofs.Places.{split_at, all-at}
-use Rattle.ordertext.specs.Order.{is_gap, gap_is, is_equals, digit_of, digits, is_numeral, onward, before_last, name_length, table_text, is_pair}
-
--- the test of a byte by what is asked of it
-asked_is : (w c : Bool) (b : ℕ) → c ≡ is_gap b → gap_is w b ≡ beq c w
-asked_is true true b e = sym e
-asked_is true false b e = sym e
-asked_is false true b e = ap not (sym e)
-asked_is false false b e = ap not (sym e)
-
-pub as-asked : (w : Bool) {c t : Bool} (b : ℕ) → c ≡ is_gap b → beq c w ≡ t → gap_is w b ≡ t
-as-asked w {c} b e h = asked_is w c b e ∙ h
+use Rattle.ordertext.specs.Order.{is_equals, digit_of, digits, is_numeral, onward, before_last, name_length, table_text, is_pair}
 
 -- a byte between two
 pub between-e : (least most b : ℕ) → between least most b ≡ true → (least ≤ b) × (b ≤ most)
@@ -57,9 +47,6 @@ last_step w i t h e =
 
 pub last-here : (w : Text) (i : ℕ) → 0 < i → is_equals (get_or w (i - 1) 0) ≡ true → i - 1 ≡ before_last w i
 last-here w i h e = sym (last_step w i true h e)
-
-pub last-before : (w : Text) (i : ℕ) → 0 < i → is_equals (get_or w (i - 1) 0) ≡ false → before_last w (i - 1) ≡ before_last w i
-last-before w i h e = sym (last_step w i false h e)
 
 pub last_none : (w : Text) (i : ℕ) → i ≤ 0 → 0 ≡ before_last w i
 last_none w i h = let q : i ≡ 0 = omega arith in ap (before_last w) (sym q)

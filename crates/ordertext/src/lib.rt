@@ -54,14 +54,12 @@ fn find(text: &[u8], at: usize, wanted: bool) -> usize
     requires { at ≤ length text.now }
     ensures { (result ≡ at + length (before (gap_is wanted) (drop at text.now))) × (result ≤ length text.now) }
 {
-    let mut i = at;
-    while i < text.len() {
+    for i in at..text.len() {
         if gap(text[i]) == wanted {
             return i;
         }
-        i += 1;
     }
-    i
+    text.len()
 }
 
 // The value of a hexadecimal digit in either case; 16 of any other byte.
@@ -84,12 +82,10 @@ fn digit(b: u8) -> u64
 fn all_printing(w: &[u8]) -> bool
     ensures { result ≡ all is_printing w.now }
 {
-    let mut i: usize = 0;
-    while i < w.len() {
-        if !between(0x21, 0x7E, w[i]) {
+    for b in w {
+        if !between(0x21, 0x7E, *b) {
             return false;
         }
-        i += 1;
     }
     true
 }
@@ -98,12 +94,10 @@ fn all_printing(w: &[u8]) -> bool
 fn all_digits(w: &[u8], base: u64) -> bool
     ensures { result ≡ digits base w.now }
 {
-    let mut i: usize = 0;
-    while i < w.len() {
-        if base <= digit(w[i]) {
+    for b in w {
+        if base <= digit(*b) {
             return false;
         }
-        i += 1;
     }
     true
 }
@@ -127,10 +121,8 @@ fn numeral(w: &[u8], base: u64) -> u64
     ensures { result ≡ numeral base w.now }
 {
     let mut v: u64 = 0;
-    let mut i: usize = 0;
-    while i < w.len() {
-        v = v * base + digit(w[i]);
-        i += 1;
+    for b in w {
+        v = v * base + digit(*b);
     }
     v
 }
@@ -139,9 +131,7 @@ fn numeral(w: &[u8], base: u64) -> u64
 fn name_length(w: &[u8]) -> usize
     ensures { result ≡ name_length w.now }
 {
-    let mut i = w.len();
-    while 0 < i {
-        i -= 1;
+    for i in (0..w.len()).rev() {
         if w[i] == 0x3D {
             return i;
         }

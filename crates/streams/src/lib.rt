@@ -2,16 +2,8 @@
 #![tactic(auto)]
 
 ghost use Rattle.std.specs.Prelude.{◌≤◌, length, IfOk};
-ghost use Rattle.streams.specs.Taken.{Within};
 
 use std::io::{self, Print, Read};
-
-// So many bytes at the start of a buffer, or none: they could not be had, or have no room.
-#[derive(Clone, Copy)]
-pub enum Taken {
-    Bytes(usize),
-    Failed,
-}
 
 // Reads until the file ends or the buffer is full: a pipe gives a file in pieces. Or else says why it cannot be read.
 pub fn read_from<R: Read>(source: &mut R, file: &mut [u8]) -> io::Result<usize>
@@ -26,16 +18,6 @@ pub fn read_from<R: Read>(source: &mut R, file: &mut [u8]) -> io::Result<usize>
         n += more;
     }
     Ok(n)
-}
-
-// The same, where it does not matter why a file cannot be read.
-pub fn read_all<R: Read>(source: &mut R, file: &mut [u8]) -> Taken
-    ensures { Within result (length file.new) }
-{
-    match read_from(source, file) {
-        Ok(n) => Taken::Bytes(n),
-        Err(_) => Taken::Failed,
-    }
 }
 
 // Whether the text could be printed; where not, this is told. No contract can say what was written.

@@ -5,18 +5,12 @@ use Rattle.ordertext.specs.Order.{digit_of}
 use Rattle.ordertext.proofs.Numerals.{between-e}
 use Rattle.ordertext.proofs.digit.Goals as goal
 
-pub overflow_sub-result : goal.overflow_sub-result
-overflow_sub-result c = let b = between-e 0x30 0x39 c.args.b (sym c.between.ensures ∙ c.if-between.true) in omega arith
-
 pub returns-then-between : goal.returns-then-between
 unfolding digit_of
 returns-then-between c =
     let t = sym c.between.ensures ∙ c.if-between.true in
     let b = between-e 0x30 0x39 c.args.b t in
     (rw t, omega arith)
-
-pub overflow_sub-result-then-between-2 : goal.overflow_sub-result-then-between-2
-overflow_sub-result-then-between-2 c = let b = between-e 0x41 0x46 c.args.b (sym c.between-2.ensures ∙ c.if-between-2.true) in omega arith
 
 pub returns-then-between-2 : goal.returns-then-between-2
 unfolding digit_of
@@ -25,9 +19,6 @@ returns-then-between-2 c =
     let t = sym c.between-2.ensures ∙ c.if-between-2.true in
     let b = between-e 0x41 0x46 c.args.b t in
     (rw (f, t), omega arith)
-
-pub overflow_sub-result-then-between-3 : goal.overflow_sub-result-then-between-3
-overflow_sub-result-then-between-3 c = let b = between-e 0x61 0x66 c.args.b (sym c.between-3.ensures ∙ c.if-between-3.true) in omega arith
 
 pub returns-then-between-3 : goal.returns-then-between-3
 unfolding digit_of

@@ -1,27 +1,13 @@
 -- `order_of`. Assumes nothing.
 use mathlib.Core.Path.{refl, sym, ap, ◌∙◌}
 use native.Mathlib.Omega.{arith}
-use Rattle.ordertext.proofs.Turns.{start, found_word, no-pair, pair_inside, turn, reads-no-pair, reads-blank, reads-pairs}
-use Rattle.text.proofs.Places.{begin}
+use Rattle.ordertext.proofs.Turns.{start, no-pair, pair_inside, turn, reads-no-pair, reads-blank, reads-pairs}
 use Rattle.ordertext.specs.declared.Split.{Split}
-use Rattle.ordertext.specs.Order.{is_gap}
 use Rattle.ordertext.specs.Reads.{split_of}
 use Rattle.ordertext.proofs.order_of.Goals as goal
 
 pub loop-at-init : goal.loop-at-init
 loop-at-init c = start c.args.text.now _ _ _ _ c.find-at.result (record { gates-long = refl; tables-long = refl; starts-long = refl; ends-long = refl }) c.find-at.ensures.0 c.find-at.ensures.1
-
-pub find-end-requires : goal.find-end-requires
-find-end-requires c = omega arith
-
-pub slice_bounds-is_pair-count : goal.slice_bounds-is_pair-count
-slice_bounds-is_pair-count c = omega arith
-
-pub slice_bounds-is_pair-start : goal.slice_bounds-is_pair-start
-slice_bounds-is_pair-start c = omega arith
-
-pub slice_bounds-is_pair-end : goal.slice_bounds-is_pair-end
-slice_bounds-is_pair-end c = omega arith
 
 pub returns-then-not-is_pair : goal.returns-then-not-is_pair
 returns-then-not-is_pair c =
@@ -33,36 +19,6 @@ returns-then-not-is_pair c =
     (no-pair h.invariant f.result t f.ensures.0 f.ensures.1 (sym c.is_pair.ensures ∙ c.if-not-is_pair.true))
     (omega arith) f.ensures.1
 
-pub slice_bounds-split_pair-count : goal.slice_bounds-split_pair-count
-slice_bounds-split_pair-count c = omega arith
-
-pub slice_bounds-split_pair-start : goal.slice_bounds-split_pair-start
-slice_bounds-split_pair-start c = omega arith
-
-pub slice_bounds-split_pair-end : goal.slice_bounds-split_pair-end
-slice_bounds-split_pair-end c = omega arith
-
-pub split_pair-p-requires : goal.split_pair-p-requires
-split_pair-p-requires c = sym c.is_pair.ensures ∙ c.if-not-is_pair.false
-
-pub offset_bounds-gates-n : goal.offset_bounds-gates-n
-offset_bounds-gates-n c = omega (arith, c.loop-at.invariant.few c.loop-at-test.true)
-
-pub bounds-gates-n : goal.bounds-gates-n
-bounds-gates-n c = omega (arith, c.loop-at.invariant.few c.loop-at-test.true)
-
-pub offset_bounds-tables-n : goal.offset_bounds-tables-n
-offset_bounds-tables-n c = omega (arith, c.loop-at.invariant.few c.loop-at-test.true)
-
-pub bounds-tables-n : goal.bounds-tables-n
-bounds-tables-n c = omega (arith, c.loop-at.invariant.few c.loop-at-test.true)
-
-pub offset_bounds-starts-n : goal.offset_bounds-starts-n
-offset_bounds-starts-n c = omega (arith, c.loop-at.invariant.few c.loop-at-test.true)
-
-pub bounds-starts-n : goal.bounds-starts-n
-bounds-starts-n c = omega (arith, c.loop-at.invariant.few c.loop-at-test.true)
-
 pub overflow_add-ends : goal.overflow_add-ends
 unfolding split_of
 overflow_add-ends c =
@@ -71,27 +27,6 @@ overflow_add-ends c =
     let i = pair_inside h.invariant f.result c.loop-at-test.true f.ensures.0 f.ensures.1 (sym c.is_pair.ensures ∙ c.if-not-is_pair.false) in
     let e = ap (λ (p : Split). p.size) c.split_pair-p.ensures in
     let l = f.ensures.1 in
-    omega arith
-
-pub offset_bounds-ends-n : goal.offset_bounds-ends-n
-offset_bounds-ends-n c = omega (arith, c.loop-at.invariant.few c.loop-at-test.true)
-
-pub bounds-ends-n : goal.bounds-ends-n
-bounds-ends-n c = omega (arith, c.loop-at.invariant.few c.loop-at-test.true)
-
-pub overflow_add-n : goal.overflow_add-n
-overflow_add-n c = omega (arith, c.loop-at.invariant.few c.loop-at-test.true)
-
-pub find-at-requires-in-loop-at : goal.find-at-requires-in-loop-at
-find-at-requires-in-loop-at c = c.find-end.ensures.1
-
-pub loop-at-smaller : goal.loop-at-smaller
-loop-at-smaller c =
-    let h = c.loop-at in
-    let f = c.find-end in
-    let w = (found_word h.invariant f.result c.loop-at-test.true f.ensures.0 f.ensures.1).longer in
-    let b = (begin is_gap _ f.result c.find-at-in-loop-at.result c.find-at-in-loop-at.ensures.0 c.find-at-in-loop-at.ensures.1).onward in
-    let t = c.loop-at-test.true in
     omega arith
 
 pub loop-at-preserved : goal.loop-at-preserved
