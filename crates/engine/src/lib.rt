@@ -6,105 +6,72 @@ ghost use Rattle.std.specs.Prelude.{◌≡◌};
 ghost use Rattle.network.specs.Calls.{exchange_answer, exchange_of, verdict_of, tables_of, pattern_sets_of, counts_of, written_of};
 ghost use Rattle.blif.specs.Write.{write_blif_of};
 
-use network::{Answer, Counts, Exchanged, MOST_GATES, Session, TablesAnswer, WriteAnswer};
+use network::{MOST_GATES, Refusal, Session, Tables};
 
 // What an exchange is answered: 10, then as in a valid session.
-fn exchange_answer(s: Session, gate: usize, table: u64) -> Answer
+fn exchange_answer(s: Session, gate: usize, table: u64) -> Result<(), Refusal>
     ensures { result ≡ exchange_answer s (record { signal = gate; table = table }) }
 {
-    let v = state::state_test(s);
-    if let Answer::Refused(_) = v {
-        return v;
-    }
+    state::state_test(s)?;
     answers::exchange(s, gate, table)
 }
 
 // Sets a gate's current table, where the session's compatible sets leave it free.
-pub fn exchange(s: Session, gate: usize, table: u64) -> Exchanged
+pub fn exchange(s: Session, gate: usize, table: u64) -> Result<Session, Refusal>
     ensures { result ≡ exchange_of s (record { signal = gate; table = table }) }
 {
-    let a = exchange_answer(s, gate, table);
-    if let Answer::Refused(_) = a {
-        return Exchanged {
-            answer: a,
-            session: s,
-        };
-    }
+    exchange_answer(s, gate, table)?;
     let n = s.n as usize;
     let g = gate - n;
     let mut t = s;
     t.current[g] = table;
-    Exchanged {
-        answer: Answer::Done,
-        session: t,
-    }
+    Ok(t)
 }
 
 // Of the current network with all of the gates replaced, each by its table, against the loaded outputs.
-pub fn verdict(s: Session, gates: &[u64], tables: &[u64]) -> Answer
+pub fn verdict(s: Session, gates: &[u64], tables: &[u64]) -> Result<(), Refusal>
     ensures { result ≡ verdict_of s gates.now tables.now }
 {
-    let v = state::state_test(s);
-    if let Answer::Refused(_) = v {
-        return v;
-    }
+    state::state_test(s)?;
     answers::verdict(s, gates, tables)
 }
 
 // The SDC, CDC, full and open table of a gate.
-pub fn tables(s: Session, gate: usize) -> TablesAnswer
+pub fn tables(s: Session, gate: usize) -> Result<Tables, Refusal>
     ensures { result ≡ tables_of s gate }
 {
-    let v = state::state_test(s);
-    if let Answer::Refused(r) = v {
-        return TablesAnswer::Refused(r);
-    }
+    state::state_test(s)?;
     answers::tables(s, gate)
 }
 
 // The ODC and the compatible set of each gate, gate after gate from the start of the buffer; the words after the last stay.
-pub fn pattern_sets(s: Session, buf: &mut [u64]) -> Answer
+pub fn pattern_sets(s: Session, buf: &mut [u64]) -> Result<(), Refusal>
     ensures { record { answer = result; buffer = buf.new } ≡ pattern_sets_of s buf.old }
 {
-    let tested = state::state_test(s);
-    if let Answer::Refused(_) = tested {
-        return tested;
-    }
+    state::state_test(s)?;
     answers::pattern_sets(s, buf)
 }
 
 // The number of patterns in the compatible set of each gate.
-pub fn counts(s: Session) -> Counts
+pub fn counts(s: Session) -> Result<[u16; MOST_GATES], Refusal>
     ensures { result ≡ counts_of s }
 {
-    let v = state::state_test(s);
-    if let Answer::Refused(_) = v {
-        return Counts {
-            answer: v,
-            counts: [0u16; MOST_GATES],
-        };
-    }
+    state::state_test(s)?;
     answers::counts(s)
 }
 
 // The file's bytes from the start of the buffer, with the length; the rest of the buffer stays.
-pub fn write(s: Session, buf: &mut [u8]) -> WriteAnswer
+pub fn write(s: Session, buf: &mut [u8]) -> Result<usize, Refusal>
     ensures { record { answer = result; buffer = buf.new } ≡ written_of s buf.old }
 {
-    let v = state::state_test(s);
-    if let Answer::Refused(r) = v {
-        return WriteAnswer::Refused(r);
-    }
+    state::state_test(s)?;
     answers::write(s, buf)
 }
 
 // The network with its current tables as BLIF text from the start of the buffer, with the length; the rest of the buffer stays.
-pub fn write_blif(s: Session, buf: &mut [u8]) -> WriteAnswer
+pub fn write_blif(s: Session, buf: &mut [u8]) -> Result<usize, Refusal>
     ensures { record { answer = result; buffer = buf.new } ≡ write_blif_of s buf.old }
 {
-    let v = state::state_test(s);
-    if let Answer::Refused(refusal) = v {
-        return WriteAnswer::Refused(refusal);
-    }
+    state::state_test(s)?;
     blifwrite::write(s, buf)
 }

@@ -12,10 +12,7 @@ returns-in_err-gate_test c =
     handed-on c.from_residual.ensures.1 (tables-refused c.args.s c.args.gate (sym c.gate_test.ensures ∙ c.in_err-gate_test.was))
 
 pub overflow_sub-g : goal.overflow_sub-g
-overflow_sub-g c =
-    let s = c.args.s in
-    let v = named s c.args.gate [] (sym c.gate_test.ensures ∙ c.in_ok-gate_test.was) in
-    omega (arith, v.low)
+overflow_sub-g c = let v = named c.args.s c.args.gate [] (sym c.gate_test.ensures ∙ c.in_ok-gate_test.was) in omega (arith, v.low, v.high, v.most)
 
 pub gate_tables-t-requires : goal.gate_tables-t-requires
 gate_tables-t-requires c =
@@ -30,16 +27,10 @@ sdc-d-requires c =
     record { s_value = v.valid; g_lt_m = omega (arith, v.low, v.high) }
 
 pub offset_bounds-s-g : goal.offset_bounds-s-g
-offset_bounds-s-g c =
-    let s = c.args.s in
-    let v = named s c.args.gate [] (sym c.gate_test.ensures ∙ c.in_ok-gate_test.was) in
-    omega (arith, v.low, v.high, v.most)
+offset_bounds-s-g c = let v = named c.args.s c.args.gate [] (sym c.gate_test.ensures ∙ c.in_ok-gate_test.was) in omega (arith, v.low, v.high, v.most)
 
 pub bounds-s-g : goal.bounds-s-g
-bounds-s-g c =
-    let s = c.args.s in
-    let v = named s c.args.gate [] (sym c.gate_test.ensures ∙ c.in_ok-gate_test.was) in
-    omega (arith, v.low, v.high, v.most)
+bounds-s-g c = let v = named c.args.s c.args.gate [] (sym c.gate_test.ensures ∙ c.in_ok-gate_test.was) in omega (arith, v.low, v.high, v.most)
 
 pub returns : goal.returns
 returns c =
