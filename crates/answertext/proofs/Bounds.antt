@@ -8,8 +8,8 @@ use native.Mathlib.Omega.{arith}
 use lib.Pow.{pow_mono}
 use lib.ListN.{length, get_or, length-map}
 use Rattle.bits.specs.Bounds.{most_inputs}
-use Rattle.std.specs.Prelude.{Ok, Err}
-use Rattle.network.specs.Answer.{Answer, Done, answer_of}
+use Rattle.std.specs.Prelude.{Result, Ok, Err}
+use Rattle.network.specs.Answer.{Answer, Done}
 use Rattle.network.specs.declared.Session.{Session}
 use Rattle.network.specs.declared.Refusal.{Refusal}
 use Rattle.network.specs.Bounds.{most_entries}
@@ -83,14 +83,11 @@ module _ (file : List ℕ) (ps : List Pair) where
   abbrev s : Session
   s = (session_of (load_of file))
 
-  by-load : (a : Answer) → answer_of (load_of file) ≡ a → Prints s ps (reply_of file ps)
+  by-load : (l : Result Session Refusal) → load_of file ≡ l → Prints (session_of l) ps (reply_of file ps)
   unfolding reply_of
   by-load (Err r) e = rw e tt
-  by-load (Ok _) e = go (pairs-only (loaded_net s) [] (replacements ps))
+  by-load (Ok s) loads = go (pairs-only (loaded_net s) [] (replacements ps))
     where
-      loads : load_of file ≡ Ok s
-      loads = ap (λ (a : Answer). record { answer = a; session = (session_of (load_of file)) }) e
-
       go : (pairs_test (loaded_net s) [] (replacements ps) ≡ Done)
           ⊎ ((f : Refusal) × (pairs_test (loaded_net s) [] (replacements ps) ≡ Err f) × OfPair f × (refused_at (loaded_net s) [] (replacements ps) < length (replacements ps)))
           → Prints s ps (reply_of file ps)
@@ -100,7 +97,7 @@ module _ (file : List ℕ) (ps : List Pair) where
           (let m = length-map ps replacement_of in omega (arith, f.3))
 
 pub prints-of : PrintsOf
-prints-of file ps = by-load file ps answer_of (load_of file) refl
+prints-of file ps = by-load file ps (load_of file) refl
 
 -- ## Its room
 

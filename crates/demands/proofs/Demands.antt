@@ -1,6 +1,6 @@
 -- The three demands, proved. Assumes nothing.
 use mathlib.Core.Path.{◌≡◌, refl, sym, ap, ◌∙◌}
-use mathlib.Core.Logic.{⊎_elim, ◌↔◌}
+use mathlib.Core.Logic.{inl, ⊎_elim, ◌↔◌}
 use mathlib.Core.Bool.{true}
 use mathlib.Core.List.{List, [], ◌∷◌}
 use Prim.Native.Nat.{ℕ, ◌≤◌}
@@ -8,8 +8,9 @@ use lib.ListN.{length}
 use borrow.Author.Tests.{le-ltb}
 use Rattle.bits.specs.Lists.{overwritten}
 use Rattle.bits.proofs.Logic.{clash}
-use Rattle.std.specs.Prelude.{Ok, Err}
-use Rattle.network.specs.Answer.{Answer, Done, answer_of, giving, onward}
+use Rattle.std.specs.Prelude.{Result, Ok, Err}
+use Rattle.network.specs.Answer.{Answer, Done, answer_of, giving, onward, given_or}
+use Rattle.network.specs.declared.Refusal.{Refusal}
 use Rattle.network.specs.declared.Session.{Session}
 use Rattle.network.specs.Net.{Net, is_gate, patterns, Replacement}
 use Rattle.network.specs.Flat.{loaded_net}
@@ -17,9 +18,9 @@ use Rattle.network.specs.Valid.{Shaped}
 use Rattle.network.specs.Refusals.{said}
 use Rattle.network.specs.Tests.{first}
 use Rattle.network.specs.State.{state_test}
-use Rattle.network.specs.Load.{session_of, read_of, opened, load_of}
+use Rattle.network.specs.Load.{started, session_of, read_of, opened, opening, load_of}
 use Rattle.network.specs.Write.{bytes_of}
-use Rattle.network.specs.Calls.{gate_test, harm_test, exchange_tests, held_closed, exchange_answer, exchanged, exchange_of, lengths_test, pairs, pairs_test, verdict_of, verdict_on, gate_tables, tables_of, Filled, room_test, filled, set_words, pattern_sets_of, write_of, counts_of, with_length, written_of}
+use Rattle.network.specs.Calls.{gate_test, harm_test, exchange_tests, held_closed, exchange_answer, exchanged, exchange_of, lengths_test, pairs, pairs_test, verdict_of, verdict_on, gate_tables, tables_of, Filled, room_test, filled, set_words, pattern_sets_of, write_of, pattern_counts, counts_of, with_length, written_of}
 use Rattle.network.specs.Sessions.{after, NoHarm, FirstHarm}
 use Rattle.network.proofs.Valid.{state-e, state-i}
 use Rattle.network.proofs.Fresh.{Fresh}
@@ -68,10 +69,14 @@ module _ (s : Session) (new buffer : List ℕ) where
 
 -- ## Demand 1
 
+opening-ends : (ns : List ℕ) (l : Result Session Refusal) → Among ns (answer_of l) → Ends (opening l) (Ok (opened (session_of l))) ns Err
+opening-ends ns (Ok s) h = inl refl
+opening-ends ns (Err r) h = ends ns (λ a. onward a (Ok (opened (started 0 0 0)))) (Err r) h
+
 pub demand1 : Demand1
 unfolding load_of tables_of pattern_sets_of exchange_of exchange_answer verdict_of write_of written_of counts_of read_blif_of write_blif_of
 demand1 = record {
-  load = λ bytes. ends file (λ a. onward a (Ok (opened (session_of (read_of bytes))))) answer_of (read_of bytes) (read-among bytes);
+  load = λ bytes. opening-ends file (read_of bytes) (read-among bytes);
   tables = λ s g. let ns : List ℕ = 10 ∷ 11 ∷ [] in
       tests-end ns (λ a. giving a (gate_tables s g)) (state_test s ∷ gate_test (loaded_net s) g ∷ [])
       (state-by (Among ns) s refl (λ v. tt), (gate-by (Among ns) (loaded_net s) g refl (λ w. tt), tt));
@@ -82,6 +87,7 @@ demand1 = record {
       let shut = held_closed s r.signal in
       tests-end ns (λ a. exchanged a s r) (state_test s ∷ exchange_tests N shut r)
       (state-by Q s refl (λ v. tt), (gate-by Q N r.signal refl (λ w. tt), (table-by Q N r refl (λ f. tt), (closed-by Q N shut r (λ t. refl) tt, tt))));
+  exchange_stays = λ s r f e. ap (given_or s) e;
   verdict = λ s gs ts. let ns : List ℕ = 10 ∷ 11 ∷ 12 ∷ 14 ∷ 15 ∷ 16 ∷ [] in
       let Q = Among ns in
       let N = loaded_net s in
@@ -90,13 +96,12 @@ demand1 = record {
       tests-end ns (λ a. a) (state_test s ∷ lengths_test gs ts ∷ pairs_test N [] rs ∷ harm_test N M ∷ [])
       (state-by Q s refl (λ v. tt), (lengths-by Q gs ts refl (λ e. tt), (pairs-by Q N [] rs refl refl refl tt, (harm-by Q N M (λ x i. refl) tt, tt))));
   write = λ s buffer. fills-end s (bytes_of s) buffer (with_length (length (bytes_of s)));
-  read_blif = λ text. let ns : List ℕ = 3 ∷ 17 ∷ 18 ∷ [] in
-      ends ns (λ a. onward a (Ok (opened (session_of (read_blif text))))) answer_of (read_blif text) (read_by (Among ns) tt refl refl refl text);
+  read_blif = λ text. let ns : List ℕ = 3 ∷ 17 ∷ 18 ∷ [] in opening-ends ns (read_blif text) (read_by (Among ns) tt refl refl refl text);
   write_blif = λ s buffer. let ns : List ℕ = 3 ∷ 9 ∷ 10 ∷ [] in
       let new = blif_text s in
       tests-end ns (λ a. with_length (length new) (filled a new buffer)) (state_test s ∷ copies_test s ∷ room_test (length new) buffer ∷ [])
       (state-by (Among ns) s refl (λ v. tt), (copies-by (Among ns) tt refl s, (room_by (Among ns) (length new) buffer refl (λ l. tt), tt)));
-  counts = λ s. ends (10 ∷ []) (λ a. counts_for a s) (state_test s) (state-by (Among (10 ∷ [])) s refl (λ v. tt));
+  counts = λ s. ends (10 ∷ []) (λ a. giving a (pattern_counts s)) (state_test s) (state-by (Among (10 ∷ [])) s refl (λ v. tt));
 }
 
 -- ## Demand 2: in every state that 10 does not refuse
@@ -145,7 +150,7 @@ module _ (s : Session) (fresh : Fresh s) (rs : List Replacement) where
   }
 
 pub demand2 : Demand2
-unfolding pattern_sets_of write_of written_of
+unfolding pattern_sets_of write_of written_of counts_of
 demand2 = record {
   tables = tables-are;
   sdc_entries = λ N g e. sdc-entries N g e [];
@@ -154,7 +159,7 @@ demand2 = record {
   cdc_full = cdc-full;
   cdc_plain = cdc-plain;
   pattern_sets = λ s buffer. fills-done s (set_words s s.m) buffer;
-  counts = λ s g v. counts-at s v g;
+  counts = λ s g v h. rw v (counts-at s v g h);
   counts_fit = counts-fit;
   harmful = harmful-is;
   shown = λ s rs x i j. shown-at s rs j x i;

@@ -93,7 +93,7 @@ onward-among : (a : Answer) (l : Result Session Refusal) → Among file a → Am
 onward-among (Ok _) l p q = q
 onward-among (Err r) l p q = p
 
-outputs-among : (c i : ℕ) (t : Session) (rest : List ℕ) → Among file answer_of (read_outputs c i t rest)
+outputs-among : (c i : ℕ) (t : Session) (rest : List ℕ) → Among file (answer_of (read_outputs c i t rest))
 unfolding read_outputs output_record
 outputs-among zero i t rest = onward-among (refuse_if (leb 1 (length rest)) TrailingBytes) _ (if-among file (leb 1 (length rest)) TrailingBytes refl) tt
 outputs-among (suc c) i t rest =
@@ -102,7 +102,7 @@ outputs-among (suc c) i t rest =
     (first-among file (output_tests (t.n + t.m) rest) (mark-among 0x4E4F rest, (length-among 3 rest, (output-among (t.n + t.m) x, tt))))
     (outputs-among c (i + 1) (with_output t i x) (drop 3 rest))
 
-gates-among : (c g : ℕ) (t : Session) (rest : List ℕ) → Among file answer_of (read_gates c g t rest)
+gates-among : (c g : ℕ) (t : Session) (rest : List ℕ) → Among file (answer_of (read_gates c g t rest))
 unfolding read_gates gate_record
 gates-among zero g t rest = outputs-among t.p 0 t rest
 gates-among (suc c) g t rest =
@@ -118,7 +118,7 @@ gates-among (suc c) g t rest =
     ))
     (gates-among c (g + 1) (with_gate t g k (fanins_in rest) (table_in rest)) (drop f.bytes (after_fanins rest)))
 
-body-among : (t : Session) (rest : List ℕ) → Among file answer_of (read_body t rest)
+body-among : (t : Session) (rest : List ℕ) → Among file (answer_of (read_body t rest))
 unfolding read_body excluded_record
 body-among t rest = go (is_excluded rest)
   where
@@ -132,7 +132,7 @@ body-among t rest = go (is_excluded rest)
         (gates-among t.m 0 (with_excluded t (excluded_in t.n rest)) (drop (set_bytes t.n) (drop 2 rest)))
     go false = gates-among t.m 0 t rest
 
-pub read-among : (bytes : List ℕ) → Among file answer_of (read_of bytes)
+pub read-among : (bytes : List ℕ) → Among file (answer_of (read_of bytes))
 unfolding read_of header_record
 read-among bytes =
     let n = get_or bytes 2 0 in

@@ -19,9 +19,9 @@ use Rattle.network.specs.Tests.{member}
 use Rattle.network.specs.State.{state_test}
 use Rattle.network.specs.Load.{session_of, read_of, opened, load_of}
 use Rattle.network.specs.Write.{bytes_of}
-use Rattle.network.specs.Calls.{stored, exchange_of, verdict_of, verdict_on, sdc_words, gate_tables, tables_of, set_words, pattern_sets_of, counts_of, written_of}
+use Rattle.network.specs.Calls.{stored, exchange_of, verdict_of, verdict_on, sdc_words, gate_tables, tables_of, set_words, pattern_sets_of, pattern_counts, counts_of, written_of}
 use Rattle.network.specs.Lists.{Sound, PairExactOf, JudgedOf, FaultedOf, FewOf, ListedOf, UnequalOf, LoneOf}
-use Rattle.network.specs.Sessions.{after, Demand3Of, NoHarm, FirstHarm, Rule4Of, InsideOf, TogetherOf}
+use Rattle.network.specs.Sessions.{next, after, Demand3Of, NoHarm, FirstHarm, Rule4Of, InsideOf, TogetherOf}
 use Rattle.network.specs.Sessions as sessions
 use Rattle.roundtrip.specs.Kept.{OldRecord, OldFiles, OldBytes, OldWritten}
 use Rattle.blif.specs.Read.{read_blif, read_blif_of}
@@ -48,9 +48,11 @@ pub record Demand1 : Type 0 where
   pub pattern_sets : (s : Session) (buffer : List ℕ)
       → Ends (pattern_sets_of s buffer) (record { answer = Done; buffer = overwritten (set_words s s.m) buffer }) (9 ∷ 10 ∷ [])
       (λ r. record { answer = Err r; buffer = buffer })
-  -- an exchanged gate; a refusal leaves the session
+  -- an exchanged gate
   pub exchange : (s : Session) (r : Replacement)
-      → Ends (exchange_of s r) (record { answer = Done; session = stored s r }) (10 ∷ 11 ∷ 12 ∷ 13 ∷ []) (λ f. record { answer = Err f; session = s })
+      → Ends (exchange_of s r) (Ok (stored s r)) (10 ∷ 11 ∷ 12 ∷ 13 ∷ []) Err
+  -- a refusal leaves the session
+  pub exchange_stays : (s : Session) (r : Replacement) (f : Refusal) → exchange_of s r ≡ Err f → next s r ≡ s
   -- a verdict on two lists: harmless, or else 14 names the harm
   pub verdict : (s : Session) (gs ts : List ℕ) → Ends (verdict_of s gs ts) Done (10 ∷ 11 ∷ 12 ∷ 14 ∷ 15 ∷ 16 ∷ []) Err
   -- a written file, with its length; a refusal leaves the buffer
@@ -58,7 +60,7 @@ pub record Demand1 : Type 0 where
       → Ends (written_of s buffer) (record { answer = Ok (length (bytes_of s)); buffer = overwritten (bytes_of s) buffer }) (9 ∷ 10 ∷ [])
       (λ r. record { answer = Err r; buffer = buffer })
   -- the number of patterns in H of each gate
-  pub counts : (s : Session) → Ends (counts_of s) (counts_for Done s) (10 ∷ []) (λ r. counts_for (Err r) s)
+  pub counts : (s : Session) → Ends (counts_of s) (Ok (pattern_counts s)) (10 ∷ []) Err
   -- request Four: the network of a BLIF text, its open tables with it; or no state
   pub read_blif : (text : List ℕ) → Ends (read_blif_of text) (Ok (opened (session_of (read_blif text)))) (3 ∷ 17 ∷ 18 ∷ []) Err
   -- a written text, with its length; a refusal leaves the buffer
