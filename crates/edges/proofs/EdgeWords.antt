@@ -1,6 +1,5 @@
 -- Rule 6 in words, over plain variables. Assumes nothing.
 use mathlib.Core.Path.{◌≡◌, refl, sym, ap, ap₂, ◌∙◌, subst}
-use mathlib.Core.Logic.{inl, inr}
 use mathlib.Core.Bool.{Bool, true, false, not, cond, ◌&&◌, ◌||◌, beq}
 use mathlib.Core.List.{List, ◌∷◌}
 use Prim.Native.Nat.{ℕ, zero, suc, ◌+◌, ◌-◌, ◌*◌, ◌/◌, ◌%◌, ◌^◌, ◌<◌, ◌≤◌}
@@ -14,7 +13,7 @@ use lib.ListN.{length, get_or, set}
 use lib.Pow.{pow-add, pow-lt, pow_mono, pow_pos, split}
 use lib.Seq.{get_or-set_same, get_or-set_other}
 use borrow.Author.Tests.{not-true}
-use Rattle.bits.specs.Bounds.{gate_places, small_fanins}
+use Rattle.bits.specs.Bounds.{small_fanins}
 use Rattle.bits.specs.Bit.{bit, choose, differs, table_of}
 use Rattle.bits.proofs.BitLaws.{bit-and, bit-xor, bit-ext, bit-zero, bit-ones, bit-shr, bit-low, bit_high, bit-above, differs_true, with-own, with-other, power-own, power-other}
 use Rattle.bits.proofs.Cuts.{one_shl}
@@ -26,7 +25,7 @@ use Rattle.network.specs.Compatible.{agree, constant, turns, free_fanins}
 use Rattle.network.specs.Flat.{gate_at}
 use Rattle.network.proofs.FlatGates.{entry_lt, arity-at, table_at}
 use Rattle.network.proofs.Safe.{constant-e, constant-i, constant-none}
-use Rattle.edges.specs.Edges.{edge_table, GateEdged, SmallEdged, EdgesPut, Constants, Doubled, Halved}
+use Rattle.edges.specs.Edges.{edge_table, GateEdged, Constants, Doubled, Halved}
 
 and-false : (a : Bool) → (a && false) ≡ false
 and-false true = refl
@@ -292,19 +291,6 @@ at-turn-next k table l₀ l r size hr room pick left h lh t ht =
 abbrev pub Halving : (l₀ l : List ℕ) (free h : ℕ) → Type 0
 Halving l₀ l free h = Halved l₀ l free h × ((q : ℕ) → h ≤ q → get_or l q 0 ≡ get_or l₀ q 0)
 
-pub halved-step : (l₀ l : List ℕ) (h v free : ℕ) → h < length l → ((t : ℕ) → bit v t ≡ choose (bit free t) (bit (get_or l (2 * h + 1) 0) t) (bit (get_or l (2 * h) 0) t))
-    → Halving l₀ l free h → Halving l₀ (set l h v) free (h + 1)
-halved-step l₀ l h v free hl ev s = (λ q lq t. go q lq t (ℕ_discrete q h), λ q lq. get_or-set_other l h q v 0 (λ e. omega arith) ∙ s.1 q (omega arith))
-  where
-    goal : ℕ → ℕ → Type 0
-    goal t q = bit (get_or (set l h v) q 0) t ≡ choose (bit free t) (bit (get_or l₀ (2 * q + 1) 0) t) (bit (get_or l₀ (2 * q) 0) t)
-
-    go : (q : ℕ) → q < h + 1 → (t : ℕ) → Dec (q ≡ h) → goal t q
-    go q lq t (yes e) = subst (goal t) (sym e)
-        (ap (λ (x : ℕ). bit x t) (get_or-set_same l h v 0 hl) ∙ ev t
-        ∙ ap₂ (λ (x y : ℕ). choose (bit free t) (bit x t) (bit y t)) (s.1 (2 * h + 1) (omega arith)) (s.1 (2 * h) (omega arith)))
-    go q lq t (no n) = ap (λ (x : ℕ). bit x t) (get_or-set_other l h q v 0 n) ∙ s.0 q (omega arith) t
-
 -- ## Edge tables
 
 -- half of the words that are left
@@ -320,39 +306,9 @@ filled-from l p a i k v h so_far own q lq lk = go (ℕ_discrete q i)
     go (yes s) = rw s (get_or-set_same l (a + i) v 0 h ∙ own (omega arith))
     go (no n) = get_or-set_other l (a + i) (a + q) v 0 (λ s. n (omega arith)) ∙ so_far q (omega arith) lk
 
--- what is put for gate g leaves the edge tables of the others, and gives its own if it has no more fan-ins than turns were taken
-gate-put : (ks ts es es' : List ℕ) (taken g k : ℕ) → k ≡ get_or ks g 0 → EdgesPut taken k (get_or ts g 0) (gate_places * g) es es'
-    → (h : ℕ) → get_or ks h 0 ≤ most_fanins → ((h ≡ g → ⊥) → GateEdged ks ts es h) → (h ≡ g → k ≤ taken) → GateEdged ks ts es' h
-gate-put ks ts es es' taken g k ek p h few other own r lr = go (ℕ_discrete h g) (dec_lt h g)
-  where
-    go : Dec (h ≡ g) → Dec (h < g) → get_or es' (gate_places * h + r) 0 ≡ edge_table (get_or ks h 0) (get_or ts h 0) r
-    go (yes e) _ =
-        subst (λ (i : ℕ). get_or es' (gate_places * i + r) 0 ≡ edge_table (get_or ks i 0) (get_or ts i 0) r) (sym e)
-        (p.own (own e) r (omega (arith, ek, ap (λ (i : ℕ). get_or ks i 0) e)) ∙ ap (λ (i : ℕ). edge_table i (get_or ts g 0) r) ek)
-    go (no d) (yes l) = p.others (gate_places * h + r) (inl (omega arith)) ∙ other d r lr
-    go (no d) (no l) = p.others (gate_places * h + r) (inr (omega arith)) ∙ other d r lr
-
--- one more gate, its edge tables there if it is small
-pub small-next : (ks ts es es' : List ℕ) (g k : ℕ) → k ≡ get_or ks g 0 → EdgesPut small_fanins k (get_or ts g 0) (gate_places * g) es es'
-    → SmallEdged ks ts es g → SmallEdged ks ts es' (g + 1)
-small-next ks ts es es' g k ek p s h lh few =
-    gate-put ks ts es es' small_fanins g k ek p h (omega arith) (λ d. s h (omega arith) few) (λ e. omega (arith, ek, ap (λ (i : ℕ). get_or ks i 0) e))
-
 -- of m gates, the first g and all small ones have theirs
 abbrev pub EdgedPast : (arity tables edges : List ℕ) (m g : ℕ) → Type 0
 EdgedPast ks ts es m g = (h : ℕ) → h < m → (g ≤ h → get_or ks h 0 ≤ small_fanins) → GateEdged ks ts es h
-
-pub past-wide : (ks ts es es' : List ℕ) (m g k : ℕ) → g < m → ((h : ℕ) → h < m → get_or ks h 0 ≤ most_fanins) → k ≡ get_or ks g 0
-    → EdgesPut most_fanins k (get_or ts g 0) (gate_places * g) es es' → EdgedPast ks ts es m g → EdgedPast ks ts es' m (g + 1)
-past-wide ks ts es es' m g k hg few ek p s h lh small =
-    gate-put ks ts es es' most_fanins g k ek p h (few h lh) (λ d. s h lh (λ le. small (omega arith))) (λ e. omega (arith, ek, few g hg))
-
-pub past-small : (ks ts es : List ℕ) (m g : ℕ) → get_or ks g 0 ≤ small_fanins → EdgedPast ks ts es m g → EdgedPast ks ts es m (g + 1)
-past-small ks ts es m g few s h lh small = s h lh (λ le. go le (ℕ_discrete h g))
-  where
-    go : g ≤ h → Dec (h ≡ g) → get_or ks h 0 ≤ small_fanins
-    go le (yes e) = rw e few
-    go le (no d) = small (omega arith)
 
 -- at the entry that the values vs pick, the edge table of fan-in r tells whether the gate frees it
 pub edge_at : (ks fs ts : List ℕ) (vs : List Bool) (g r : ℕ) → bit (edge_table (get_or ks g 0) (get_or ts g 0) r) (entry vs (gate_at ks fs ts g)) ≡ bit (free_fanins (gate_at ks fs ts g) (entry vs (gate_at ks fs ts g))) r

@@ -9,7 +9,7 @@ use lib.ListN.{length, get_or, set, length-set}
 use lib.Seq.{get_or-set_other}
 use Rattle.bits.specs.Bounds.{gate_places}
 use Rattle.network.specs.Bounds.{most_fanins, most_entries, fanin_places}
-use Rattle.edges.specs.Edges.{edge_table, EdgesPut, Constants, Halved}
+use Rattle.edges.specs.Edges.{edge_table, Constants, Halved}
 use Rattle.edges.proofs.EdgeWords.{AtTurn, at-turn-start, at-turn-edge, at-turn-next, half_room, filled-from}
 
 -- r of n turns are taken: the edge tables of the first r fan-ins stand at place `at` and on, and the words are those of the next turn
@@ -46,6 +46,3 @@ module _ (n k table at : ℕ) (edges₀ : List ℕ) (entries : ℕ) (most : n �
         room = room;
         left = λ few lr. at-turn-next k table words new r _ (omega arith) (half_room n k r most (omega arith) few) halved (t.left few (omega arith));
       }
-
-  pub turn_last : (edges words : List ℕ) (r : ℕ) → n ≤ r → Turning n k table at edges₀ entries edges words r → EdgesPut n k table at edges₀ edges
-  turn_last edges words r done t = record { size = t.size; own = λ few q h. t.own few q (omega arith) h; others = t.others }
