@@ -13,9 +13,7 @@ use lib.Seq.{drop-cons}
 use Rattle.bits.specs.Bit.{bit}
 use Rattle.bits.proofs.BitLaws.{bit-or, bit-power}
 use Rattle.bits.proofs.Ranges.{or_comm}
-use Rattle.std.specs.Prelude.{Err}
 use Rattle.network.specs.Answer.{Answer, Done}
-use Rattle.network.specs.declared.Refusal.{Refusal}
 use Rattle.network.specs.declared.Refusal.TheVariants.{NotAGate}
 use Rattle.network.specs.Net.{Replacement}
 use Rattle.network.specs.Flat.{stored_all}
@@ -60,9 +58,6 @@ module _ (n m : ℕ) (ks gs ts : List ℕ) where
       (pairs_by n m ks named (pairs (drop i gs) (drop i ts)) ≡ pairs_by n m ks [] (pairs gs ts))
       × (i + refused_by n m ks named (pairs (drop i gs) (drop i ts)) ≡ refused_by n m ks [] (pairs gs ts))
 
-  abbrev Told : Answer → ℕ → Type 0
-  Told a i = (a ≡ pairs_by n m ks [] (pairs gs ts)) × (i ≡ refused_by n m ks [] (pairs gs ts))
-
   module _ (named : List ℕ) (i : ℕ) (h : i < length gs) (l : i < length ts) (left : Left named i) (a : Answer)
       (e : a ≡ pair_by n m ks (member (get_or gs i 0) named) (get_or gs i 0) (get_or ts i 0)) where
     abbrev rest : List Replacement
@@ -79,25 +74,13 @@ module _ (n m : ℕ) (ks gs ts : List ℕ) where
         subst From (sym e ∙ d)
         (sym (ap (pairs_by n m ks named) (pairs-at gs ts i h l)) ∙ left.0, ap (λ (rs : List Replacement). i + refused_by n m ks named rs) (sym (pairs-at gs ts i h l)) ∙ left.1)
 
-    pub pair-stops : {f : Refusal} → a ≡ Err f → Told (Err f) i
-    pair-stops {f} d = ((whole (Err f) d).0, omega (arith, (whole (Err f) d).1))
-
     pub pair-next : a ≡ Done → Left (get_or gs i 0 ∷ named) (i + 1)
     pair-next d = ((whole Done d).0, omega (arith, (whole Done d).1))
-
-  pub pairs_end : (named : List ℕ) (i : ℕ) → length gs ≤ i → Left named i → Told Done i
-  pairs_end named i h left =
-      let q = drop_of_length-le gs h in
-      (ap (λ (l : List ℕ). pairs_by n m ks named (pairs l (drop i ts))) (sym q) ∙ left.0, omega (arith, ap (λ (l : List ℕ). i + refused_by n m ks named (pairs l (drop i ts))) (sym q) ∙ left.1))
 
 pub stored-length : (n : ℕ) (rs : List Replacement) (ts : List ℕ) → length (stored_all n rs ts) ≡ length ts
 stored-length n [] ts = refl
 stored-length n (r ∷ rs) ts = stored-length n rs (set ts (r.signal - n) r.table) ∙ length-set ts (r.signal - n) r.table
 
 module _ (n : ℕ) (gs ts all : List ℕ) (i : ℕ) where
-  pub stored_next : i < length gs → i < length ts
-      → stored_all n (pairs (drop (i + 1) gs) (drop (i + 1) ts)) (set all (get_or gs i 0 - n) (get_or ts i 0)) ≡ stored_all n (pairs (drop i gs) (drop i ts)) all
-  stored_next h l = sym (ap (λ (rs : List Replacement). stored_all n rs all) (pairs-at gs ts i h l))
-
   pub stored-end : length gs ≤ i → all ≡ stored_all n (pairs (drop i gs) (drop i ts)) all
   stored-end h = ap (λ (l : List ℕ). stored_all n (pairs l (drop i ts)) all) (sym (drop_of_length-le gs h))

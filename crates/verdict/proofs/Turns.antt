@@ -1,6 +1,6 @@
 -- The search for the first harm: the turns of its loops over patterns and outputs, and its parts. Assumes nothing.
 use mathlib.Core.Path.{◌≡◌, refl, sym, ap, ap₂, ◌∙◌}
-use mathlib.Core.Bool.{Bool, true, false, ◌&&◌}
+use mathlib.Core.Bool.{Bool, false, ◌&&◌}
 use mathlib.Core.Logic.{⊎_elim}
 use Prim.Native.Nat.{ℕ, zero, suc, ◌+◌, ◌-◌, ◌*◌, ◌^◌, ◌≤◌, ◌<◌}
 use native.Mathlib.Nat.{add-zero, zero-add}
@@ -11,11 +11,10 @@ use Rattle.std.specs.Prelude.{Option}
 use Rattle.std.specs.Prelude.{None}
 use Rattle.bits.specs.Range.{up_from, first_in, smallest}
 use Rattle.bits.specs.Cut.{Cut}
-use Rattle.bits.proofs.Search.{smallest-eq, smallest-ext, found, next, done}
+use Rattle.bits.proofs.Search.{smallest-eq, smallest-ext, next}
 use Rattle.std.specs.Prelude.{Ok, Err}
 use Rattle.network.specs.Answer.{Answer, Done}
 use Rattle.network.specs.declared.Refusal.{Refusal}
-use Rattle.network.specs.declared.Refusal.TheVariants.{Harm}
 use Rattle.network.specs.Tests.{or_else}
 use Rattle.network.specs.Calls.{output_found, first_harm}
 use Rattle.network.proofs.TestLaws.{alone}
@@ -26,9 +25,6 @@ use Rattle.verdict.specs.Changed.{word_harm}
 more : (e n : ℕ) → e < n → n - e ≡ suc (n - (e + 1))
 more e n h = omega arith
 
-none : (e n : ℕ) → n ≤ e → n - e ≡ 0
-none e n h = omega arith
-
 module _ (h : ℕ → ℕ → Bool) (p : ℕ) where
   pub outer_start : (w : ℕ) → first_harm h p (up_from (w * 64) (w * 64 + 64 - w * 64)) ≡ word_harm h p w
   unfolding word_harm
@@ -37,24 +33,15 @@ module _ (h : ℕ → ℕ → Bool) (p : ℕ) where
   pub outer-step : (x a : ℕ) → x < a → or_else (output_found x (smallest p (h x))) (first_harm h p (up_from (x + 1) (a - (x + 1)))) ≡ first_harm h p (up_from x (a - x))
   outer-step x a l = rw (more x a l)
 
-  pub outer-done : (x a : ℕ) → a ≤ x → Done ≡ first_harm h p (up_from x (a - x))
-  outer-done x a l = rw (none x a l)
-
 -- ## The loop over outputs, at o of those below b; r is the answer of the later patterns
 
 module _ (q : ℕ → Bool) (x : ℕ) (r : Answer) where
   abbrev on : Option ℕ → Answer
   on f = or_else (output_found x f) r
 
-  pub inner-found : (o b : ℕ) → o < b → q o ≡ true → Err (Harm x o) ≡ or_else (output_found x (first_in q (up_from o (b - o)))) r
-  inner-found o b h t = ap on (found q o b h t)
-
   pub inner-next : (o b : ℕ) → o < b → q o ≡ false
       → or_else (output_found x (first_in q (up_from (o + 1) (b - (o + 1))))) r ≡ or_else (output_found x (first_in q (up_from o (b - o)))) r
   inner-next o b h t = ap on (next q o b h t)
-
-  pub inner-done : (o b : ℕ) → b ≤ o → r ≡ or_else (output_found x (first_in q (up_from o (b - o)))) r
-  inner-done o b h = sym (ap on (done q o b h))
 
 -- ## Parts of the search
 
@@ -120,6 +107,3 @@ module _ (h : ℕ → ℕ → Bool) (p W w : ℕ) where
 
   pub words-next : w < W → (a : Answer) → a ≡ word_harm h p w → a ≡ Done → left h p W (w + 1) ≡ left h p W w
   words-next l a e d = ap (λ (b : Answer). or_else b (left h p W (w + 1))) (sym d ∙ e) ∙ words_step l
-
-  pub words-done : W ≤ w → Done ≡ left h p W w
-  words-done l = outer-done h p (w * 64) (W * 64) (omega arith)

@@ -1,9 +1,4 @@
 -- The outputs before i are in the word. Assumes nothing.
-use mathlib.Core.Path.{◌≡◌, ap, ◌∙◌}
-use Prim.Native.Nat.{ℕ}
-use native.Mathlib.Omega.{arith}
-use Rattle.bits.specs.Range.{any}
-use Rattle.bits.specs.Bit.{bit}
 use Rattle.bits.proofs.BitLaws.{bit-zero}
 use Rattle.simulate.specs.Simulated.{words_at}
 use Rattle.verdict.specs.Changed.{changed_word}
@@ -18,10 +13,3 @@ loop-i-preserved c =
     let a = c.args in
     let l = c.loop-i in
     changes-step (changed_word a.outs.now (words_at a.xs.now a.w) (words_at a.ys.now a.w)) l.acc c.changed-acc.result l.i l.invariant c.changed-acc.ensures
-
-pub returns : goal.returns
-returns c =
-    let a = c.args in
-    let l = c.loop-i in
-    let e : l.i ≡ a.p = omega arith in
-    λ b. l.invariant b ∙ ap (λ (k : ℕ). any k (λ i. bit (changed_word a.outs.now (words_at a.xs.now a.w) (words_at a.ys.now a.w) i) b)) e
