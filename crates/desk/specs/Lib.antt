@@ -1,4 +1,3 @@
-use Rattle.network.specs.Answer.{Answer}
 pub mod Reply
 pub mod Answer
 pub mod Promises

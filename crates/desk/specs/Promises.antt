@@ -10,7 +10,7 @@ use Rattle.network.specs.Flat.{loaded_net, current_net}
 use Rattle.network.specs.Tests.{is_done, member}
 use Rattle.network.specs.Load.{load_of}
 use Rattle.network.specs.Calls.{exchange_answer, pairs_test}
-use Rattle.network.specs.Sessions.{next, after, answers, NoHarm, FirstHarm}
+use Rattle.network.specs.Sessions.{after, answers, NoHarm, FirstHarm}
 use Rattle.bits.specs.Lists.{Bytes}
 use Rattle.text.specs.Numbers.{word_digits}
 use Rattle.text.specs.Ascii.{ascii}
@@ -116,7 +116,7 @@ BeginsOf = (file : List ℕ) (ps : List Pair) → Begins file ps
 -- ## Refusals are of the file, or of the first pair at fault
 
 abbrev pub FileRefusedOf : Type 0
-FileRefusedOf = (file : List ℕ) (ps : List Pair) (f : Refusal) → answer_of (load_of file) ≡ Err f → reply_of file ps ≡ FileRefused f
+FileRefusedOf = (file : List ℕ) (ps : List Pair) (f : Refusal) → load_of file ≡ Err f → reply_of file ps ≡ FileRefused f
 
 -- the pairs in front pass, and with the next one they do not: its place is named, whatever is behind it
 abbrev pub PairRefusedOf : Type 0

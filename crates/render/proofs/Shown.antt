@@ -23,7 +23,7 @@ use Rattle.network.specs.Flat.{loaded_net, current_net}
 use Rattle.network.specs.Refusals.{number_of}
 use Rattle.network.specs.Load.{session_of, load_of}
 use Rattle.network.specs.State.{state_fault}
-use Rattle.network.specs.Calls.{counts_of}
+use Rattle.network.specs.Calls.{pattern_counts}
 use Rattle.network.proofs.Valid.{state-i}
 use Rattle.network.proofs.CountLaws.{counts-at, count-few}
 use Rattle.network.proofs.Fresh.{Fresh}
@@ -31,7 +31,7 @@ use Rattle.network.proofs.Reached.{loaded-fresh}
 use Rattle.network.proofs.Exchanges.{loaded-length, loaded-inputs, open_at}
 use Rattle.dontcares.specs.Tabled.{Tabled}
 use Rattle.loading.specs.declared.Counted.{Counted}
-use Rattle.loading.specs.Counted.{counted_of}
+use Rattle.loading.specs.Counted.{counted, counted_of}
 use Rattle.tabletext.specs.Digits.{digits}
 use Rattle.tabletext.proofs.DigitLaws.{digits-few}
 use Rattle.render.specs.declared.Columns.{Columns}
