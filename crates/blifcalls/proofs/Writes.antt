@@ -5,14 +5,13 @@ use Prim.Native.Nat.{ℕ, ◌≤◌}
 use native.Mathlib.Omega.{arith}
 use lib.ListN.{length}
 use Rattle.bits.specs.Lists.{overwritten}
+use Rattle.std.specs.Prelude.{Result, Ok, Err}
+use Rattle.network.specs.Answer.{Answer, Done}
 use Rattle.network.specs.declared.Session.{Session}
-use Rattle.network.specs.declared.WriteAnswer.{WriteAnswer}
-use Rattle.network.specs.declared.WriteAnswer.TheVariants as write
 use Rattle.network.specs.declared.Refusal.{Refusal}
-use Rattle.network.specs.declared.Answer.{Answer}
-use Rattle.network.specs.declared.Answer.TheVariants.{Done, Refused}
+use Rattle.network.specs.declared.Refusal.{Refusal}
 use Rattle.network.specs.Refusals.{number_of}
-use Rattle.network.specs.Tests.{first}
+use Rattle.network.specs.Tests.{or_else, first}
 use Rattle.network.specs.State.{state_test}
 use Rattle.network.specs.Calls.{room_test, filled, with_length}
 use Rattle.network.proofs.TestLaws.{alone, stopped, went_on}
@@ -25,13 +24,17 @@ use Rattle.promises.proofs.Leaves.{Leaves, refused, worked, room-passed}
 use Rattle.promises.proofs.Fills.{fills, written, unwritten}
 
 -- of `out` nothing is asked at first
-pub unasked : (a : Answer) (out : List ℕ) → a ≡ first (a ∷ room_test 0 out ∷ [])
-unasked a out = rw (room-i 0 out (omega arith)) (alone a)
+pub unasked : (out : List ℕ) → Done ≡ room_test 0 out
+unasked out = sym (room-i 0 out (omega arith))
+
+-- the copies are counted before `out` is asked for
+pub in-turn : (s : Session) (out : List ℕ) {x y : Answer} → x ≡ copies_test s → y ≡ room_test 1 out → or_else x (or_else y Done) ≡ first (copies_test s ∷ room_test 1 out ∷ [])
+in-turn s out e f = rw (e, f)
 
 -- filling hands on its answer
 answer-filled : (a : Answer) (new buffer : List ℕ) → (filled a new buffer).answer ≡ a
-answer-filled Done new buffer = refl
-answer-filled (Refused r) new buffer = refl
+answer-filled (Ok _) new buffer = refl
+answer-filled (Err r) new buffer = refl
 
 module _ (s : Session) (text out : List ℕ) {a : Answer} (f : a ≡ first (copies_test s ∷ room_test 1 out ∷ [])) where
   abbrev new : List ℕ
@@ -41,14 +44,14 @@ module _ (s : Session) (text out : List ℕ) {a : Answer} (f : a ≡ first (copi
   room = room_test (length new) text
 
   -- 3, or 9 for `out`
-  pub early : {r : Refusal} {k : ℕ} → a ≡ Refused r → k ≡ number_of r → Leaves (worked (write_blif_work text out s) text out) k text out
+  pub early : {r : Refusal} {k : ℕ} → a ≡ Err r → k ≡ number_of r → Leaves (worked (write_blif_work text out s) text out) k text out
   early h p =
       let tests = copies_test s ∷ room_test 1 out ∷ [] in
       let y = stopped tests (room ∷ []) f h in
       let n = names-first 0 tests (copies-by (NamesMost 0) (omega arith) (omega arith) s, (names-room 0 1 out, tt)) in
       refused (length new ∷ []) new text out (sym y ∙ h) (rw (← y, f) n) p
 
-  module _ (h : a ≡ Done) (v : state_test s ≡ Done) {w : WriteAnswer} {b : List ℕ} (q : record { answer = w; buffer = b } ≡ write_blif_of s text) where
+  module _ (h : a ≡ Done) (v : state_test s ≡ Done) {w : Result ℕ Refusal} {b : List ℕ} (q : record { answer = w; buffer = b } ≡ write_blif_of s text) where
     passed : (copies_test s ≡ Done) × (1 ≤ length out)
     passed = room-passed (copies_test s) 1 out f h
 
@@ -62,8 +65,8 @@ module _ (s : Session) (text out : List ℕ) {a : Answer} (f : a ≡ first (copi
         ap (λ (x : Answer). left (first (x ∷ [])) (length new ∷ []) new text out) (answer-filled (first (room ∷ [])) new text)
         ∙ ap (λ (x : Answer). left x (length new ∷ []) new text out) (sym (alone (first (room ∷ []))) ∙ went_on (copies_test s ∷ room_test 1 out ∷ []) (room ∷ []) f h)
 
-    pub given : {n : ℕ} {o : List ℕ} → w ≡ write.Written n → o ≡ overwritten (n ∷ []) out → Leaves (worked (write_blif_work text out s) text out) 0 b o
+    pub given : {n : ℕ} {o : List ℕ} → w ≡ Ok n → o ≡ overwritten (n ∷ []) out → Leaves (worked (write_blif_work text out s) text out) 0 b o
     given e p = written (first (room ∷ [])) new text out by-room e p ∙ same
 
-    pub short : {r : Refusal} {k : ℕ} → w ≡ write.Refused r → k ≡ number_of r → Leaves (worked (write_blif_work text out s) text out) k b out
+    pub short : {r : Refusal} {k : ℕ} → w ≡ Err r → k ≡ number_of r → Leaves (worked (write_blif_work text out s) text out) k b out
     short e p = unwritten (first (room ∷ [])) new text out by-room (names-first 0 (room ∷ []) (names-room 0 (length new) text, tt)) e p ∙ same

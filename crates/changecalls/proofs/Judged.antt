@@ -1,24 +1,24 @@
--- Verdict and exchange: what their answers name, and what the calls leave by them. Assumes nothing.
-use mathlib.Core.Path.{◌≡◌, refl, sym, ◌∙◌}
+-- Verdict and exchange: what their answers name, and what the calls answer by their tests. Assumes nothing.
+use mathlib.Core.Path.{◌≡◌, refl, sym, ap, ◌∙◌}
 use mathlib.Core.List.{List, [], ◌∷◌}
-use Prim.Native.Nat.{ℕ}
+use Prim.Native.Nat.{ℕ, ◌≤◌}
 use native.Mathlib.Omega.{arith}
-use Rattle.bits.specs.Lists.{overwritten}
+use lib.ListN.{length}
+use Rattle.std.specs.Prelude.{Ok, Err}
+use Rattle.network.specs.Answer.{Answer, Done, answer_of, giving, given_or}
 use Rattle.network.specs.declared.Session.{Session}
 use Rattle.network.specs.declared.Refusal.{Refusal}
-use Rattle.network.specs.declared.Answer.{Answer}
-use Rattle.network.specs.declared.Answer.TheVariants.{Done, Refused}
 use Rattle.network.specs.Net.{Replacement, replaced}
 use Rattle.network.specs.Flat.{loaded_net, current_net}
-use Rattle.network.specs.Refusals.{number_of, values_of}
+use Rattle.network.specs.Refusals.{values_of}
 use Rattle.network.specs.Tests.{first}
 use Rattle.network.specs.State.{state_test}
-use Rattle.network.specs.Calls.{harm_test, held_closed, exchange_tests, exchange_answer, lengths_test, pairs, pairs_test, verdict_of}
-use Rattle.network.proofs.TestLaws.{alone}
+use Rattle.network.specs.Calls.{room_test, harm_test, held_closed, exchange_tests, exchange_answer, lengths_test, pairs, pairs_test, verdict_of}
+use Rattle.network.proofs.TestLaws.{alone, refused-done, given-same}
 use Rattle.network.proofs.ByTest.{closed-by, harm-by, lengths-by, pairs-by}
-use Rattle.promises.specs.Boundary.{left}
-use Rattle.promises.proofs.Names.{NamesMost, names-first, names-state, names-gate, names_table}
-use Rattle.promises.proofs.Leaves.{Leaves, refused-with, done}
+use Rattle.packed.specs.Packed.{session_in, words_test, unpack_of}
+use Rattle.promises.proofs.Tested.{room-e}
+use Rattle.promises.proofs.Names.{NamesMost, named-room, names-first, names-room, names-state, names-words, names-gate, names_table}
 
 -- ## What the answers name
 
@@ -44,15 +44,51 @@ names-verdict s gs ts =
       ),
     )
 
--- ## What a call leaves whose own test is y, and that gives nothing in `out`
+-- ## What the calls answer: the words, the room of `out`, then their own test
 
-module _ (new buffer out : List ℕ) {y v : Answer} (e : v ≡ y) where
-  judged : v ≡ first (y ∷ [])
-  judged = e ∙ alone y
+module _ (ws out : List ℕ) (needed : ℕ) (y : Answer) where
+  abbrev tests : List Answer
+  tests = words_test ws ∷ room_test needed out ∷ y ∷ []
 
-  pub judged-refused : {f : Refusal} {k : ℕ} {o : List ℕ} → v ≡ Refused f → k ≡ number_of f → o ≡ overwritten (values_of f) out
-      → Leaves (left (first (y ∷ [])) [] new buffer out) k buffer o
-  judged-refused h p q = refused-with [] new buffer out (sym judged ∙ h) p q
+  pub answer-unpack : {r : Refusal} → Err r ≡ unpack_of ws → Err r ≡ first (words_test ws ∷ room_test needed out ∷ y ∷ [])
+  unfolding unpack_of
+  answer-unpack {r} e = go (words_test ws) e
+    where
+      go : (w : Answer) → Err r ≡ giving w (session_in ws) → Err r ≡ first (w ∷ room_test needed out ∷ y ∷ [])
+      go (Ok _) e = refused-done r (ap answer_of e)
+      go (Err f) e = ap answer_of e
 
-  pub judged-done : {b : List ℕ} → v ≡ Done → b ≡ overwritten new buffer → Leaves (left (first (y ∷ [])) [] new buffer out) 0 b out
-  judged-done h p = done [] new buffer out (sym judged ∙ h) p refl
+  pub words-pass : {s : Session} → Ok s ≡ unpack_of ws → (words_test ws ≡ Done) × (s ≡ session_in ws)
+  unfolding unpack_of
+  words-pass {s} e = go (words_test ws) e
+    where
+      go : (w : Answer) → Ok s ≡ giving w (session_in ws) → (w ≡ Done) × (s ≡ session_in ws)
+      go (Ok _) e = (refl, given-same e)
+      go (Err f) e = refused-done f (ap answer_of (sym e))
+
+  pub answer-room : {s : Session} {r : Refusal} → Ok s ≡ unpack_of ws → Err r ≡ room_test needed out → Err r ≡ first (words_test ws ∷ room_test needed out ∷ y ∷ [])
+  answer-room e q = rw ((words-pass e).0, ← q)
+
+  pub answer-last : {s : Session} {v : Answer} → Ok s ≡ unpack_of ws → Done ≡ room_test needed out → v ≡ y → v ≡ first (words_test ws ∷ room_test needed out ∷ y ∷ [])
+  answer-last e q h = h ∙ rw ((words-pass e).0, ← q) (alone y)
+
+  -- where the answer names values there is room for them
+  pub named-fit : {r : Refusal} → NamesMost needed y → Err r ≡ first (words_test ws ∷ room_test needed out ∷ y ∷ []) → length (values_of r) ≤ length out
+  named-fit {r} n e = go (words_test ws) refl (room_test needed out) refl e
+    where
+      go : (w : Answer) → words_test ws ≡ w → (m : Answer) → room_test needed out ≡ m → Err r ≡ first (w ∷ m ∷ y ∷ []) → length (values_of r) ≤ length out
+      go (Err f) p m q e = named-room out (p ∙ sym e) (names-words 0 ws) (omega arith)
+      go (Ok _) p (Err f) q e = named-room out (q ∙ sym e) (names-room 0 needed out) (omega arith)
+      go (Ok _) p (Ok _) q e = named-room out (alone y ∙ sym e) n (room-e needed out q)
+
+-- an answer that gives k
+pub giving-err : {a : Answer} {r : Refusal} (k : ℕ) → Err r ≡ a → Err r ≡ giving a k
+giving-err k e = rw (← e) refl
+
+pub giving-ok : (a : Answer) (g k : ℕ) → Ok g ≡ giving a k → (a ≡ Done) × (g ≡ k)
+giving-ok (Ok _) g k e = (refl, ap (given_or 0) e)
+giving-ok (Err r) g k e = refused-done r (ap answer_of (sym e))
+
+pub giving-refused : (a : Answer) (k : ℕ) {r : Refusal} → Err r ≡ giving a k → Err r ≡ a
+giving-refused (Ok _) k {r} e = refused-done r (ap answer_of e)
+giving-refused (Err f) k e = ap answer_of e

@@ -34,7 +34,8 @@ pub fn write(session: &[u64], file: &mut [u8], out: &mut [u64]) -> u64
 fn try_listing(file: &[u8], text: &mut [u8], out: &mut [u64]) -> Result<(), Refusal>
     ensures { record { number = number_for result; buffer = text.new; out = out.new } ≡ listing_call file.now text.old out.old }
 {
-    boundary::room(out.len(), 1)?;
+    let lent = out.len();
+    boundary::room(lent, 1)?;
     let n = render::listing(file, text)?;
     let length = [n as u64];
     boundary::give(&length, out);

@@ -45,8 +45,7 @@ pub fn all_tables(session: &[u64], out: &mut [u64]) -> u64
 fn try_pattern_sets(session: &[u64], words: &mut [u64]) -> Result<(), Refusal>
     ensures { record { number = number_for result; buffer = words.new; out = [] } ≡ pattern_sets_call session.now words.old }
 {
-    let s = packed::unpack(session)?;
-    answers::pattern_sets(s, words)
+    answers::pattern_sets(packed::unpack(session)?, words)
 }
 
 // The ODC and the compatible set of each gate.

@@ -16,7 +16,7 @@ use Rattle.network.specs.State.{state_test}
 use Rattle.network.specs.Calls.{room_test}
 use Rattle.network.proofs.TestLaws.{clear-e, alone, stopped, went_on}
 use Rattle.packed.specs.Packed.{session_words, session_in, words_test, unpack_of}
-use Rattle.promises.specs.Boundary.{Left, left, Work, on_session}
+use Rattle.promises.specs.Boundary.{Left, left, number_for, Work, on_session}
 use Rattle.promises.proofs.Tested.{room-e, words_long, words-state}
 use Rattle.promises.proofs.Names.{NamesMost, names-first, names-room, names-words}
 
@@ -105,3 +105,20 @@ module _ (work : Session → Work) (ws buffer out : List ℕ) {l : Result Sessio
         leaves = λ {k} {b} {o} v.
             subst (λ x. Leaves (left x (work s).given (work s).new buffer out) k b o) (went_on (words_test ws ∷ tests s) (work s).tests (f ∙ same_tests ws e tests) h) (rw q at v);
       }
+
+-- ## What a call leaves that hands on by `?`
+
+pub told-err : {x : Left} {a : Answer} {r : Refusal} {b o : List ℕ} → a ≡ Err r → Leaves x (number_of r) b o → Leaves x (number_for a) b o
+told-err h q = rw h q
+
+module _ (work : Session → Work) (ws buffer out : List ℕ) where
+  -- the words hold no session
+  pub unpack-stops : {r : Refusal} → Err r ≡ unpack_of ws → Leaves (on_session work ws buffer out) (number_of r) buffer out
+  unpack-stops e = down work ws buffer out e refl refl refl
+
+  module _ {s : Session} (e : Ok s ≡ unpack_of ws) where
+    pub room-stops : {r : Refusal} → Err r ≡ room_test (work s).room out → Leaves (on_session work ws buffer out) (number_of r) buffer out
+    room-stops q = down work ws buffer out e (q ∙ alone (room_test (work s).room out)) refl refl
+
+    pub room-opens : (q : Done ≡ room_test (work s).room out) → Open work ws buffer out e (q ∙ alone (room_test (work s).room out))
+    room-opens q = opens work ws buffer out e (q ∙ alone (room_test (work s).room out)) refl

@@ -1,73 +1,59 @@
 -- `changecalls::exchange` meets its contract. Assumes nothing.
-use mathlib.Core.Path.{sym, ap, ◌∙◌}
-use mathlib.Core.List.{List}
+use mathlib.Core.Path.{◌≡◌, refl, sym, ap, ◌∙◌}
+use mathlib.Core.List.{[], ◌∷◌}
 use Prim.Native.Nat.{ℕ, ◌-◌}
 use lib.ListN.{set}
 use native.Mathlib.Omega.{arith}
 use Rattle.bits.specs.Lists.{overwritten}
+use Rattle.network.specs.Answer.{Done}
 use Rattle.network.specs.Net.{Replacement}
-use Rattle.network.specs.declared.Session.{Session}
-use Rattle.network.specs.Calls.{stored, with_current}
-use Rattle.network.proofs.Valid.{state-e}
+use Rattle.network.specs.Tests.{first}
+use Rattle.network.specs.Calls.{room_test, exchange_answer, stored, with_current}
+use Rattle.network.proofs.TestLaws.{clear-e}
 use Rattle.answers.proofs.Named.{exchange-named}
-use Rattle.packed.specs.Packed.{packed_of}
-use Rattle.promises.specs.Boundary.{exchange_work, exchange_call}
-use Rattle.promises.proofs.Names.{named-room}
-use Rattle.promises.proofs.Leaves.{down, opens}
-use Rattle.changecalls.proofs.Judged.{names-exchange, judged-refused, judged-done}
+use Rattle.packed.specs.Packed.{packed_of, session_in, words_test}
+use Rattle.promises.specs.Boundary.{exchange_call}
+use Rattle.promises.proofs.Tested.{words_long}
+use Rattle.promises.proofs.Leaves.{refused-with, done}
+use Rattle.changecalls.proofs.Judged.{names-exchange, named-fit, giving-ok, giving-refused}
 use Rattle.changecalls.proofs.exchange.Goals as goal
+use Rattle.changecalls.proofs.exchange.Goals.{In-Ok}
 
-pub returns-in-Refused : goal.returns-in-Refused
+-- the answer where the gate gets the table, and which gate it is
+accepted : (c : In-Ok) →
+    let ws = c.args.session.now in
+    let r : Replacement = record { signal = c.args.gate; table = c.args.table } in
+    (first (words_test ws ∷ room_test 1 c.args.out.now ∷ exchange_answer (session_in ws) r ∷ []) ≡ Done) × (c.in-Ok.g ≡ c.args.gate - (session_in ws).n)
+accepted c = giving-ok _ _ _ c.in-Ok.ensures
+
+pub set_current-requires : goal.set_current-requires
+set_current-requires c =
+    let ws = c.args.session.now in
+    let r : Replacement = record { signal = c.args.gate; table = c.args.table } in
+    let w = accepted (goal.at.set_current-requires c).In-Ok in
+    let t = clear-e (words_test ws ∷ room_test 1 c.args.out.now ∷ exchange_answer (session_in ws) r ∷ []) w.0 in
+    let v = exchange-named (session_in ws) r refl t.1.1.0 in
+    (words_long ws t.0, omega (arith, w.1, v.low, v.high, v.most))
+
+pub returns-in-Ok : goal.returns-in-Ok
 unfolding exchange_call
-returns-in-Refused c =
-    let a = c.args in
-    let r : Replacement = record { signal = a.gate; table = a.table } in
-    down (exchange_work r) a.session.now a.session.now a.out.now c.unpack-l.ensures c.room-a.ensures c.in-Refused.is c.number_of.ensures.0
-
-pub exchange-v-requires : goal.exchange-v-requires
-exchange-v-requires c =
-    let a = c.args in
-    let r : Replacement = record { signal = a.gate; table = a.table } in
-    let x = opens (exchange_work r) a.session.now a.session.now a.out.now c.unpack-l.ensures c.room-a.ensures c.in_default.is in
-    state-e c.unpack-l.result.session x.valid
+returns-in-Ok c =
+    let ws = c.args.session.now in
+    let s = session_in ws in
+    let r : Replacement = record { signal = c.args.gate; table = c.args.table } in
+    let w = accepted (goal.at.returns-in-Ok c).In-Ok in
+    done [] (packed_of (stored s r)) ws c.args.out.now w.0
+    (c.set_current.ensures ∙ ap (λ (g : ℕ). overwritten (packed_of (with_current s (set s.current g c.args.table))) ws) w.1) refl
 
 pub tell_refusal-requires : goal.tell_refusal-requires
 tell_refusal-requires c =
     let a = c.args in
     let r : Replacement = record { signal = a.gate; table = a.table } in
-    let x = opens (exchange_work r) a.session.now a.session.now a.out.now c.unpack-l.ensures c.room-a.ensures c.in_default.is in
-    named-room a.out.now (sym c.exchange-v.ensures ∙ c.in-Refused-v.is) (names-exchange c.unpack-l.result.session r) x.room
+    named-fit a.session.now a.out.now 1 _ (names-exchange (session_in a.session.now) r) (giving-refused _ _ c.in-Err.ensures)
 
-pub returns-in-Refused-v : goal.returns-in-Refused-v
+pub returns-in-Err : goal.returns-in-Err
 unfolding exchange_call
-returns-in-Refused-v c =
+returns-in-Err c =
     let a = c.args in
     let r : Replacement = record { signal = a.gate; table = a.table } in
-    let x = opens (exchange_work r) a.session.now a.session.now a.out.now c.unpack-l.ensures c.room-a.ensures c.in_default.is in
-    let s = c.unpack-l.result.session in
-    x.leaves (judged-refused (packed_of (stored s r)) a.session.now a.out.now c.exchange-v.ensures c.in-Refused-v.is c.tell_refusal.ensures.0 c.tell_refusal.ensures.1)
-
-pub overflow_sub-g : goal.overflow_sub-g
-overflow_sub-g c =
-    let a = c.args in
-    let v = exchange-named c.unpack-l.result.session (record { signal = a.gate; table = a.table }) c.exchange-v.ensures c.in_default-v.is in
-    omega (arith, v.low, v.high, v.most)
-
-pub set_current-requires : goal.set_current-requires
-set_current-requires c =
-    let a = c.args in
-    let r : Replacement = record { signal = a.gate; table = a.table } in
-    let s = c.unpack-l.result.session in
-    let v = exchange-named s r c.exchange-v.ensures c.in_default-v.is in
-    let x = opens (exchange_work r) a.session.now a.session.now a.out.now c.unpack-l.ensures c.room-a.ensures c.in_default.is in
-    (x.long, omega (arith, v.low, v.high, v.most))
-
-pub returns : goal.returns
-unfolding exchange_call
-returns c =
-    let a = c.args in
-    let r : Replacement = record { signal = a.gate; table = a.table } in
-    let x = opens (exchange_work r) a.session.now a.session.now a.out.now c.unpack-l.ensures c.room-a.ensures c.in_default.is in
-    let s = c.unpack-l.result.session in
-    let laid : Session → List ℕ = λ y. overwritten (packed_of (with_current y (set y.current (a.gate - s.n) a.table))) a.session.now in
-    x.leaves (judged-done (packed_of (stored s r)) a.session.now a.out.now c.exchange-v.ensures c.in_default-v.is (c.set_current.ensures ∙ ap laid (sym x.holds)))
+    refused-with [] (packed_of (stored (session_in a.session.now) r)) a.session.now a.out.now (sym (giving-refused _ _ c.in-Err.ensures)) c.tell_refusal.ensures.0 c.tell_refusal.ensures.1
