@@ -23,7 +23,7 @@ use Rattle.blif.specs.Text.{fields, statements}
 use Rattle.blif.specs.Read.{place_in, opens, names, fanin_names, own_names, is_row, with_table, with_block, read_blocks}
 use Rattle.bliftext.specs.declared.Line.{Line}
 use Rattle.bliftext.specs.declared.Span.{Span}
-use Rattle.bliftext.specs.Class.{words_at}
+use Rattle.bliftext.specs.Lines.{words_at}
 use Rattle.bliftext.specs.Spans.{span_of}
 use Rattle.bliftext.specs.Named.{names_at}
 use Rattle.bliftext.proofs.Names.{many}

@@ -19,7 +19,7 @@ use Rattle.blif.specs.Text.{fields}
 use Rattle.blif.specs.Read.{place_in, read_rest}
 use Rattle.bliftext.specs.Named.{names_at}
 use Rattle.bliftext.specs.declared.Line.{Line}
-use Rattle.bliftext.specs.Class.{words_at, LineOf}
+use Rattle.bliftext.specs.Lines.{words_at, LineOf}
 use Rattle.blifline.specs.declared.Names.{Names}
 use Rattle.blifline.specs.Lines.{Named, end_tests_of}
 use Rattle.blifread.specs.Drafts.{LineIn, with_fanins, signals_at, Fits, end_of}

@@ -13,7 +13,7 @@ use Rattle.text.specs.Words.{Text}
 use Rattle.blif.specs.Text.{statements}
 use Rattle.blif.specs.Read.{Draft, place_in, names, fanin_names, counted, last_arity, is_row, with_table, with_block, with_outputs, names_tests, read_rest, read_blocks}
 use Rattle.bliftext.specs.declared.Line.{Line}
-use Rattle.bliftext.specs.Class.{words_at}
+use Rattle.bliftext.specs.Lines.{words_at}
 use Rattle.bliftext.specs.Named.{names_at, Inside}
 use Rattle.blifline.specs.declared.Names.{Names}
 use Rattle.blifline.specs.Rows.{is_row_of, Running}

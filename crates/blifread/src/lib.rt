@@ -8,7 +8,7 @@ ghost use Rattle.text.specs.Words.{Text};
 ghost use Rattle.blif.specs.Text.{fields, statements};
 ghost use Rattle.blif.specs.Read.{place_in, names, fanin_names, read_rest, read_blocks, read_outputs, read_inputs, read_blif};
 ghost use Rattle.blif.specs.Read as meaning;
-ghost use Rattle.bliftext.specs.Class.{words_at};
+ghost use Rattle.bliftext.specs.Lines.{words_at};
 ghost use Rattle.bliftext.specs.Named.{names_at, Inside};
 ghost use Rattle.blifline.specs.Lines.{Named, Held};
 ghost use Rattle.blifread.specs.Drafts.{LineIn, draft_of, RowsRead, with_fanins, gate_of, signals_at, Fits, BlockRead, end_of, ListedAt};

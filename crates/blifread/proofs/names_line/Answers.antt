@@ -9,7 +9,7 @@ use Rattle.network.proofs.TestLaws.{refused-done}
 use Rattle.text.specs.Words.{Text}
 use Rattle.blif.specs.Text.{statements}
 use Rattle.blif.specs.Read.{names, names_tests}
-use Rattle.bliftext.specs.Class.{words_at}
+use Rattle.bliftext.specs.Lines.{words_at}
 use Rattle.blifread.proofs.Steps.{part-line}
 use Rattle.blifread.proofs.Phases.{names-few, held-names, line-done, listed-same}
 use Rattle.blifread.proofs.names_line.Goals as goal
