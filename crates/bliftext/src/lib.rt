@@ -93,24 +93,24 @@ pub fn line_from(text: &[u8], at: usize) -> Option<Line>
     None
 }
 
-// The place of a name among the names that stand at these places of the text; their number where it is none of them.
-pub fn place_of(text: &[u8], starts: &[usize], ends: &[usize], w: &[u8]) -> usize
-    requires { Inside text.now starts.now ends.now × (length starts.now ≡ length ends.now) }
-    ensures { result ≡ place_in (names_at text.now starts.now ends.now) w.now }
-{
-    for i in 0..starts.len() {
-        if &text[starts[i]..ends[i]] == w {
-            return i;
-        }
-    }
-    starts.len()
-}
-
 // A word of a text by its places, or no word where `start` is `end`.
-#[derive(Drop)]
+#[derive(Clone, Copy)]
 pub struct Span {
     pub start: usize,
     pub end: usize,
+}
+
+// The place of a name among the names that stand at these places of the text; their number where it is none of them.
+pub fn place_of(text: &[u8], names: &[Span], w: &[u8]) -> usize
+    requires { Inside text.now names.now }
+    ensures { result ≡ place_in (names_at text.now names.now) w.now }
+{
+    for (i, name) in names.iter().enumerate() {
+        if &text[name.start..name.end] == w {
+            return i;
+        }
+    }
+    names.len()
 }
 
 // The first word from `at` on; none where no word is left.

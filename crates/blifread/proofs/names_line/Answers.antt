@@ -32,7 +32,7 @@ returns c =
       refused = λ q z. refused-done q (sym (ap answer_of z));
       given = λ x d. rw (← listed-same d) (record {
         listed = names (words_at text l);
-        held = held-names text l.end c.names_at-ns.result.starts c.names_at-ns.result.ends k.result _ (names (words_at text l)) (omega (arith, lo.within, lo.inside)) c.names_at-ns.ensures
+        held = held-names text l.end c.names_at-ns.result k.result _ (names (words_at text l)) (omega (arith, lo.within, lo.inside)) c.names_at-ns.ensures
             (w.ensures.behind ∙ ap names (part-line text l));
         few = omega (arith, few.1, k.ensures);
         place = lo.inside;
