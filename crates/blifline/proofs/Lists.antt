@@ -13,7 +13,7 @@ use Rattle.blif.specs.Text.{fields}
 use Rattle.blif.specs.Read.{same, place_in, known}
 use Rattle.bliftext.specs.declared.Span.{Span}
 use Rattle.bliftext.specs.Spans.{span_of, WordAt}
-use Rattle.bliftext.specs.Named.{name_at, names_at}
+use Rattle.bliftext.specs.Named.{names_at}
 use Rattle.bliftext.proofs.Names.{many, name-is}
 use Rattle.bliftext.proofs.Spans.{some_left, none_left, first-left}
 
@@ -53,12 +53,12 @@ place-le (v ∷ vs) w = go (same v w) (place-le vs w)
     go false h = omega arith
 
 -- a name by its place
-module _ (text : Text) (starts ends : List ℕ) (w : Text) (p : ℕ) (e : p ≡ place_in (names_at text starts ends) w) where
-  pub place-few : p ≤ length starts
-  place-few = let l = place-le (names_at text starts ends) w in let n = many text starts ends in omega arith
+module _ (text : Text) (names : List Span) (w : Text) (p : ℕ) (e : p ≡ place_in (names_at text names) w) where
+  pub place-few : p ≤ length names
+  place-few = let l = place-le (names_at text names) w in let n = many text names in omega arith
 
-  pub place-known : ltb p (length starts) ≡ known (names_at text starts ends) w
-  place-known = ap (λ (n : ℕ). ltb n (length starts)) e ∙ ap (ltb (place_in (names_at text starts ends) w)) (sym (many text starts ends))
+  pub place-known : ltb p (length names) ≡ known (names_at text names) w
+  place-known = ap (λ (n : ℕ). ltb n (length names)) e ∙ ap (ltb (place_in (names_at text names) w)) (sym (many text names))
 
 -- ## The last word
 
@@ -81,29 +81,29 @@ module _ (p : Text → Bool) (s : Text) (at k : ℕ) (ws : List Text) (x : Span)
 
 -- ## Names at places, one after the other
 
-module _ (text : Text) (starts ends : List ℕ) (i : ℕ) where
+module _ (text : Text) (names : List Span) (i : ℕ) where
   abbrev ns : List Text
-  ns = names_at text starts ends
+  ns = names_at text names
 
-  module _ (h : i < length starts) where
-    name-i : drop i (names_at text starts ends) ≡ name_at text starts ends i ∷ drop (i + 1) (names_at text starts ends)
-    name-i = drop-cons ns i [] (rw (many text starts ends) h) ∙ rw (name-is text starts ends i h, add-one)
+  module _ (d : Span) (h : i < length names) where
+    name-i : drop i (names_at text names) ≡ span_of text (get_or names i d) ∷ drop (i + 1) (names_at text names)
+    name-i = drop-cons ns i [] (rw (many text names) h) ∙ rw (name-is text names i d h, add-one)
 
-    pub names-not : (p : Text → Bool) → p (name_at text starts ends i) ≡ false → false ≡ all p (drop i (names_at text starts ends))
+    pub names-not : (p : Text → Bool) → p (span_of text (get_or names i d)) ≡ false → false ≡ all p (drop i (names_at text names))
     names-not p e = rw (name-i, e)
 
-    pub names-on : (p : Text → Bool) → p (name_at text starts ends i) ≡ true → all p (drop (i + 1) (names_at text starts ends)) ≡ all p (drop i (names_at text starts ends))
+    pub names-on : (p : Text → Bool) → p (span_of text (get_or names i d)) ≡ true → all p (drop (i + 1) (names_at text names)) ≡ all p (drop i (names_at text names))
     names-on p e = rw (name-i, e)
 
-    pub names-put : (f : Text → ℕ) (u : List ℕ) (v : ℕ) → v ≡ f (name_at text starts ends i)
-        → sets (set u i v) (i + 1) (map f (drop (i + 1) (names_at text starts ends))) ≡ sets u i (map f (drop i (names_at text starts ends)))
+    pub names-put : (f : Text → ℕ) (u : List ℕ) (v : ℕ) → v ≡ f (span_of text (get_or names i d))
+        → sets (set u i v) (i + 1) (map f (drop (i + 1) (names_at text names))) ≡ sets u i (map f (drop i (names_at text names)))
     names-put f u v e = rw (name-i, add-one, e)
 
-  no_more : length starts ≤ i → drop i (names_at text starts ends) ≡ []
-  no_more h = drop_of_length-le ns {i = i} (rw (many text starts ends) h)
+  no_more : length names ≤ i → drop i (names_at text names) ≡ []
+  no_more h = drop_of_length-le ns {i = i} (rw (many text names) h)
 
-  pub names-done : (p : Text → Bool) → length starts ≤ i → true ≡ all p (drop i (names_at text starts ends))
+  pub names-done : (p : Text → Bool) → length names ≤ i → true ≡ all p (drop i (names_at text names))
   names-done p h = rw (no_more h)
 
-  pub names-stored : (f : Text → ℕ) (u : List ℕ) → length starts ≤ i → u ≡ sets u i (map f (drop i (names_at text starts ends)))
+  pub names-stored : (f : Text → ℕ) (u : List ℕ) → length names ≤ i → u ≡ sets u i (map f (drop i (names_at text names)))
   names-stored f u h = rw (no_more h)

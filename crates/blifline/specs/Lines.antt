@@ -10,15 +10,11 @@ use Rattle.bliftext.specs.declared.Span.{Span}
 use Rattle.bliftext.specs.Spans.{span_of}
 use Rattle.bliftext.specs.Named.{names_at, Inside}
 
--- names in the text, each by its start and its end
-abbrev pub Named : Text → (starts ends : List ℕ) → Type 0
-Named text starts ends = Inside text starts ends × (length starts ≡ length ends)
-
 -- the names are those at the first c places
-pub record Held (text : Text) (starts ends : List ℕ) (c : ℕ) (ws : List Text) : Type 0 where
+pub record Held (text : Text) (names : List Span) (c : ℕ) (ws : List Text) : Type 0 where
   pub many : length ws ≡ c
-  pub names-are : names_at text (take c starts) (take c ends) ≡ ws
-  pub inside : Inside text (take c starts) (take c ends)
+  pub names-are : names_at text (take c names) ≡ ws
+  pub inside : Inside text (take c names)
 
 -- the span is the last of the names
 pub record OwnAt (s : Text) (ws : List Text) (w : Span) : Type 0 where

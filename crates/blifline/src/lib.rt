@@ -9,9 +9,9 @@ ghost use Rattle.network.specs.Tests.{first, count_test};
 ghost use Rattle.text.specs.Words.{all};
 ghost use Rattle.blif.specs.Text.{fields};
 ghost use Rattle.blif.specs.Read.{known, place_in, names, names_tests, model_test};
-ghost use Rattle.bliftext.specs.Named.{name_at, names_at};
+ghost use Rattle.bliftext.specs.Named.{names_at, Inside};
 ghost use Rattle.blifline.specs.Rows.{RowRead};
-ghost use Rattle.blifline.specs.Lines.{Named, Held, OwnAt, block_tests_of, end_tests_of};
+ghost use Rattle.blifline.specs.Lines.{Held, OwnAt, block_tests_of, end_tests_of};
 
 use bliftext::Span;
 use network::{FANIN_PLACES, MOST_FANINS, MOST_GATES, MOST_OUTPUTS, MOST_SIGNALS, Refusal};
@@ -90,30 +90,18 @@ pub fn names_test(s: &[u8], at: usize, word: &[u8], most: usize) -> Result<(), R
     count_test(most, bliftext::count(s, e))
 }
 
-// The places of names in the text: of the signals, or of the outputs.
-#[derive(Drop)]
-pub struct Names {
-    pub starts: [usize; MOST_SIGNALS],
-    pub ends: [usize; MOST_SIGNALS],
-}
-
 // The places of the n words from `at` on.
-pub fn names_at(s: &[u8], at: usize, n: usize) -> Names
+pub fn names_at(s: &[u8], at: usize, n: usize) -> [Span; MOST_SIGNALS]
     requires { (at ≤ length s.now) × (n ≤ most_signals) × (n ≡ length (fields (drop at s.now))) }
-    ensures { Held s.now result.starts result.ends n (fields (drop at s.now)) }
+    ensures { Held s.now result n (fields (drop at s.now)) }
 {
-    let mut starts = [0usize; MOST_SIGNALS];
-    let mut ends = [0usize; MOST_SIGNALS];
+    let mut names = [Span { start: 0, end: 0 }; MOST_SIGNALS];
     let mut x = bliftext::word_from(s, at);
     for i in 0..n {
-        starts[i] = x.start;
-        ends[i] = x.end;
+        names[i] = x;
         x = bliftext::word_from(s, x.end);
     }
-    Names {
-        starts: starts,
-        ends: ends,
-    }
+    names
 }
 
 // All but one.
@@ -138,13 +126,13 @@ pub fn own(s: &[u8], at: usize) -> Span
 }
 
 // Whether the first k words from `at` on are names at these places of the text.
-fn all_known(text: &[u8], starts: &[usize], ends: &[usize], s: &[u8], at: usize, k: usize) -> bool
-    requires { Named text.now starts.now ends.now × (at ≤ length s.now) × (k ≤ length (fields (drop at s.now))) }
-    ensures { result ≡ all (known (names_at text.now starts.now ends.now)) (take k (fields (drop at s.now))) }
+fn all_known(text: &[u8], signals: &[Span], s: &[u8], at: usize, k: usize) -> bool
+    requires { Inside text.now signals.now × (at ≤ length s.now) × (k ≤ length (fields (drop at s.now))) }
+    ensures { result ≡ all (known (names_at text.now signals.now)) (take k (fields (drop at s.now))) }
 {
     let mut x = bliftext::word_from(s, at);
     for _i in 0..k {
-        if bliftext::place_of(text, starts, ends, &s[x.start..x.end]) >= starts.len() {
+        if bliftext::place_of(text, signals, &s[x.start..x.end]) >= signals.len() {
             return false;
         }
         x = bliftext::word_from(s, x.end);
@@ -153,9 +141,9 @@ fn all_known(text: &[u8], starts: &[usize], ends: &[usize], s: &[u8], at: usize,
 }
 
 // Whether the last word from `at` on, behind k others, is a name at these places.
-fn own_known(text: &[u8], starts: &[usize], ends: &[usize], s: &[u8], at: usize, k: usize) -> bool
-    requires { Named text.now starts.now ends.now × (at ≤ length s.now) × (k ≡ length (fields (drop at s.now)) - 1) }
-    ensures { result ≡ not (all (λ w. not (known (names_at text.now starts.now ends.now) w)) (drop k (fields (drop at s.now)))) }
+fn own_known(text: &[u8], signals: &[Span], s: &[u8], at: usize, k: usize) -> bool
+    requires { Inside text.now signals.now × (at ≤ length s.now) × (k ≡ length (fields (drop at s.now)) - 1) }
+    ensures { result ≡ not (all (λ w. not (known (names_at text.now signals.now) w)) (drop k (fields (drop at s.now)))) }
 {
     let x = bliftext::word_at(s, at, k);
     let a = x.start;
@@ -163,20 +151,19 @@ fn own_known(text: &[u8], starts: &[usize], ends: &[usize], s: &[u8], at: usize,
     if a == e {
         return false;
     }
-    bliftext::place_of(text, starts, ends, &s[a..e]) < starts.len()
+    bliftext::place_of(text, signals, &s[a..e]) < signals.len()
 }
 
 // The tests of a `.names` line behind m blocks.
 pub fn block_test(
     text: &[u8],
-    starts: &[usize],
-    ends: &[usize],
+    signals: &[Span],
     s: &[u8],
     at: usize,
     m: usize,
 ) -> Result<(), Refusal>
-    requires { Named text.now starts.now ends.now × (at ≤ length s.now) × (m ≤ most_gates) }
-    ensures { result ≡ first (block_tests_of (names_at text.now starts.now ends.now) m (fields (drop at s.now))) }
+    requires { Inside text.now signals.now × (at ≤ length s.now) × (m ≤ most_gates) }
+    ensures { result ≡ first (block_tests_of (names_at text.now signals.now) m (fields (drop at s.now))) }
 {
     if bliftext::foreign(s, at) {
         return Err(Refusal::OutsideSubset);
@@ -184,10 +171,10 @@ pub fn block_test(
     let w = bliftext::word_from(s, at);
     let e = w.end;
     let k = less_one(bliftext::count(s, e));
-    if !all_known(text, starts, ends, s, e, k) {
+    if !all_known(text, signals, s, e, k) {
         return Err(Refusal::BadName);
     }
-    if own_known(text, starts, ends, s, e, k) {
+    if own_known(text, signals, s, e, k) {
         return Err(Refusal::BadName);
     }
     if bliftext::repeated(s, e) {
@@ -200,56 +187,32 @@ pub fn block_test(
 // The places of the first k words among the names, in the bytes from b on.
 pub fn fanins(
     text: &[u8],
-    starts: &[usize],
-    ends: &[usize],
+    signals: &[Span],
     s: &[u8],
     at: usize,
     k: usize,
     f: [u8; FANIN_PLACES],
     b: usize,
 ) -> [u8; FANIN_PLACES]
-    requires { Named text.now starts.now ends.now × (at ≤ length s.now) × (k ≤ length (fields (drop at s.now))) × (b + k ≤ fanin_places) × (length starts.now ≤ most_signals) }
-    ensures { result ≡ sets f b (map (place_in (names_at text.now starts.now ends.now)) (take k (fields (drop at s.now)))) }
+    requires { Inside text.now signals.now × (at ≤ length s.now) × (k ≤ length (fields (drop at s.now))) × (b + k ≤ fanin_places) × (length signals.now ≤ most_signals) }
+    ensures { result ≡ sets f b (map (place_in (names_at text.now signals.now)) (take k (fields (drop at s.now)))) }
 {
     let mut u = f;
     let mut x = bliftext::word_from(s, at);
     for i in 0..k {
-        u[b + i] = bliftext::place_of(text, starts, ends, &s[x.start..x.end]) as u8;
+        u[b + i] = bliftext::place_of(text, signals, &s[x.start..x.end]) as u8;
         x = bliftext::word_from(s, x.end);
     }
     u
 }
 
-// The place of output i's name among the names of signals.
-fn output_place(
-    text: &[u8],
-    starts: &[usize],
-    ends: &[usize],
-    outs: &[usize],
-    stops: &[usize],
-    i: usize,
-) -> usize
-    requires { Named text.now starts.now ends.now × Named text.now outs.now stops.now × (i < length outs.now) }
-    ensures { result ≡ place_in (names_at text.now starts.now ends.now) (name_at text.now outs.now stops.now i) }
-{
-    let a = outs[i];
-    let e = stops[i];
-    bliftext::place_of(text, starts, ends, &text[a..e])
-}
-
 // Whether the names of the outputs are names of signals.
-fn outputs_known(
-    text: &[u8],
-    starts: &[usize],
-    ends: &[usize],
-    outs: &[usize],
-    stops: &[usize],
-) -> bool
-    requires { Named text.now starts.now ends.now × Named text.now outs.now stops.now }
-    ensures { result ≡ all (known (names_at text.now starts.now ends.now)) (names_at text.now outs.now stops.now) }
+fn outputs_known(text: &[u8], signals: &[Span], outputs: &[Span]) -> bool
+    requires { Inside text.now signals.now × Inside text.now outputs.now }
+    ensures { result ≡ all (known (names_at text.now signals.now)) (names_at text.now outputs.now) }
 {
-    for i in 0..outs.len() {
-        if output_place(text, starts, ends, outs, stops, i) >= starts.len() {
+    for o in outputs {
+        if bliftext::place_of(text, signals, &text[o.start..o.end]) >= signals.len() {
             return false;
         }
     }
@@ -259,21 +222,19 @@ fn outputs_known(
 // The tests of the `.end` line behind m blocks.
 pub fn end_test(
     text: &[u8],
-    starts: &[usize],
-    ends: &[usize],
-    outs: &[usize],
-    stops: &[usize],
+    signals: &[Span],
+    outputs: &[Span],
     s: &[u8],
     at: usize,
     m: usize,
 ) -> Result<(), Refusal>
-    requires { Named text.now starts.now ends.now × Named text.now outs.now stops.now × (at ≤ length s.now) }
-    ensures { result ≡ first (end_tests_of (names_at text.now starts.now ends.now) (names_at text.now outs.now stops.now) m (fields (drop at s.now))) }
+    requires { Inside text.now signals.now × Inside text.now outputs.now × (at ≤ length s.now) }
+    ensures { result ≡ first (end_tests_of (names_at text.now signals.now) (names_at text.now outputs.now) m (fields (drop at s.now))) }
 {
     if bliftext::count(s, at) != 1 {
         return Err(Refusal::OutsideSubset);
     }
-    if !outputs_known(text, starts, ends, outs, stops) {
+    if !outputs_known(text, signals, outputs) {
         return Err(Refusal::BadName);
     }
     count_test(MOST_GATES, m)
@@ -282,18 +243,16 @@ pub fn end_test(
 // The signals of the outputs, put in place.
 pub fn put_outputs(
     text: &[u8],
-    starts: &[usize],
-    ends: &[usize],
-    outs: &[usize],
-    stops: &[usize],
+    signals: &[Span],
+    outputs: &[Span],
     f: [u8; MOST_OUTPUTS],
 ) -> [u8; MOST_OUTPUTS]
-    requires { Named text.now starts.now ends.now × Named text.now outs.now stops.now × (length outs.now ≤ most_outputs) × (length starts.now ≤ most_signals) }
-    ensures { result ≡ sets f 0 (map (place_in (names_at text.now starts.now ends.now)) (names_at text.now outs.now stops.now)) }
+    requires { Inside text.now signals.now × Inside text.now outputs.now × (length outputs.now ≤ most_outputs) × (length signals.now ≤ most_signals) }
+    ensures { result ≡ sets f 0 (map (place_in (names_at text.now signals.now)) (names_at text.now outputs.now)) }
 {
     let mut u = f;
-    for i in 0..outs.len() {
-        u[i] = output_place(text, starts, ends, outs, stops, i) as u8;
+    for (i, o) in outputs.iter().enumerate() {
+        u[i] = bliftext::place_of(text, signals, &text[o.start..o.end]) as u8;
     }
     u
 }

@@ -23,13 +23,12 @@ use Rattle.blif.specs.Text.{fields, statements}
 use Rattle.blif.specs.Read.{place_in, opens, names, fanin_names, own_names, is_row, with_table, with_block, read_blocks}
 use Rattle.bliftext.specs.declared.Line.{Line}
 use Rattle.bliftext.specs.declared.Span.{Span}
-use Rattle.bliftext.specs.Class.{words_at}
+use Rattle.bliftext.specs.Lines.{words_at}
 use Rattle.bliftext.specs.Spans.{span_of}
 use Rattle.bliftext.specs.Named.{names_at}
 use Rattle.bliftext.proofs.Names.{many}
-use Rattle.blifline.specs.declared.Names.{Names}
 use Rattle.blifline.specs.Lines.{Held, OwnAt, block_tests_of}
-use Rattle.blifline.proofs.Holds.{held_more, own-wide}
+use Rattle.blifline.proofs.Holds.{held_more, span-wide}
 use Rattle.blifread.specs.declared.Scanned.{Scanned}
 use Rattle.blifread.specs.declared.Drafted.{Drafted}
 use Rattle.blifread.specs.Drafts.{LineIn, draft_of, RowsRead, with_fanins, gate_of, signals_at, Fits, Left, BlockRead, end_of}
@@ -61,7 +60,7 @@ module _ (signals outputs : List Text) (t : Session) (rows : List Text) (digit :
 
 -- ## One line of the loop
 
-pub left-start : (text : Text) (outputs : List Text) (t : Session) (ns : Names) (at : ℕ) → at ≤ length text → t.m ≡ 0 → Fits text t ns
+pub left-start : (text : Text) (outputs : List Text) (t : Session) (ns : List Span) (at : ℕ) → at ≤ length text → t.m ≡ 0 → Fits text t ns
     → Left text outputs t ns at (read_blocks (draft_of (signals_at text t ns) outputs t [] 0) (statements (drop at text)))
 left-start text outputs t ns at l e f = record {
   rows = [];
@@ -72,7 +71,7 @@ left-start text outputs t ns at l e f = record {
   reads = refl;
 }
 
-module _ (text : Text) (outputs : List Text) (t : Session) (ns : Names) (i : ℕ) (answer : Result Session Refusal) (H : Left text outputs t ns i answer) where
+module _ (text : Text) (outputs : List Text) (t : Session) (ns : List Span) (i : ℕ) (answer : Result Session Refusal) (H : Left text outputs t ns i answer) where
   abbrev signals : List Text
   signals = signals_at text t ns
 
@@ -134,7 +133,7 @@ gate-session a u v e q = given-same (rw e at q)
 read-same : {a b : Drafted} → ◌≡◌ {A = Result Drafted Refusal} (Ok a) (Ok b) → a ≡ b
 read-same e = cc
 
-module _ (text : Text) (l : Line) (t : Session) (ns : Names) (F : Fits text t ns) (L : LineIn text l) where
+module _ (text : Text) (l : Line) (t : Session) (ns : List Span) (F : Fits text t ns) (L : LineIn text l) where
   abbrev c : ℕ
   c = t.n + t.m
 
@@ -152,12 +151,12 @@ module _ (text : Text) (l : Line) (t : Session) (ns : Names) (F : Fits text t ns
 
   -- as the code lends them: parts from the start on
   abbrev lent : Result Session Refusal
-  lent = gate_of (names_at text (take (t.n + t.m - 0) ns.starts) (take (t.n + t.m - 0) ns.ends)) t (fields (drop l.at (take (l.end - 0) text)))
+  lent = gate_of (names_at text (take (t.n + t.m - 0) ns)) t (fields (drop l.at (take (l.end - 0) text)))
 
   lent_is : lent ≡ gate_of (signals_at text t ns) t (words_at text l)
   lent_is = rw (sub-zero (t.n + t.m), sub-zero l.end)
 
-  module _ (x : Result Session Refusal) (e : x ≡ gate_of (names_at text (take (t.n + t.m - 0) ns.starts) (take (t.n + t.m - 0) ns.ends)) t (fields (drop l.at (take (l.end - 0) text)))) where
+  module _ (x : Result Session Refusal) (e : x ≡ gate_of (names_at text (take (t.n + t.m - 0) ns)) t (fields (drop l.at (take (l.end - 0) text)))) where
     pub answer-of : answer_of x ≡ first (block_tests_of (signals_at text t ns) t.m (words_at text l))
     answer-of = ap answer_of (e ∙ lent_is) ∙ gate-answer tests (with_fanins t fs)
 
@@ -175,8 +174,8 @@ module _ (text : Text) (l : Line) (t : Session) (ns : Names) (F : Fits text t ns
   abbrev new : Session
   new = with_fanins t fs
 
-  abbrev named : Names → Span → Names
-  named ms o = record { starts = set ms.starts (t.n + t.m) o.start; ends = set ms.ends (t.n + t.m) o.end }
+  abbrev named : List Span → Span → List Span
+  named ms o = set ms (t.n + t.m) o
 
   table_none : with_table (with_fanins t (map (place_in (signals_at text t ns)) (fanin_names (names (words_at text l))))) t.m 0 ≡ with_fanins t (map (place_in (signals_at text t ns)) (fanin_names (names (words_at text l))))
   table_none = rw (set-set t.loaded t.m 0 0, set-set t.current t.m 0 0)
@@ -184,35 +183,35 @@ module _ (text : Text) (l : Line) (t : Session) (ns : Names) (F : Fits text t ns
   last : t.m + 1 - 1 ≡ t.m
   last = omega arith
 
-  module _ (s : length ns.starts ≡ most_signals) (e : length ns.ends ≡ most_signals) (passes : first (block_tests_of (signals_at text t ns) t.m (words_at text l)) ≡ Done) where
+  module _ (s : length ns ≡ most_signals) (passes : first (block_tests_of (signals_at text t ns) t.m (words_at text l)) ≡ Done) where
     gates-few : t.m < most_gates
     gates-few = (block-facts held t.m line passes).2
 
     -- the names with the gate's own
     module _ (o : Span) (O : OwnAt (take (l.end - 0) text) (names (words_at text l)) o) where
-      more : Held text (set ns.starts (t.n + t.m) o.start) (set ns.ends (t.n + t.m) o.end) (t.n + t.m + 1) (signals_at text t ns ++ span_of text o ∷ [])
+      more : Held text (set ns (t.n + t.m) o) (t.n + t.m + 1) (signals_at text t ns ++ span_of text o ∷ [])
       more =
           let n : length (take (l.end - 0) text) ≡ l.end = rw sub-zero (length-take-le l.end text (omega (arith, L.within, L.inside))) in
           let g = gates-few in
           let f : t.n + t.m < most_signals = omega (arith, F.inputs) in
-          let h : Held text ns.starts ns.ends (t.n + t.m) held = record {
-            many = many text (take c ns.starts) (take c ns.ends) ∙ length-take-le c ns.starts (omega arith);
+          let h : Held text ns (t.n + t.m) held = record {
+            many = many text (take c ns) ∙ length-take-le c ns (omega arith);
             names-are = refl;
             inside = F.inside;
           } in
-          held_more text ns.starts ns.ends c held h o.start o.end (omega arith) (omega arith) O.upto (omega (arith, O.inside, L.within, L.inside))
+          held_more text ns c held h o (omega arith) (record { upto = O.upto; inside = omega (arith, O.inside, L.within, L.inside) })
 
       own_is : span_of text o ∷ [] ≡ own_names (names (words_at text l))
       own_is =
           let n : length (take (l.end - 0) text) ≡ l.end = rw sub-zero (length-take-le l.end text (omega (arith, L.within, L.inside))) in
-          sym (O.own ∙ ap (λ (w : Text). w ∷ []) (ap (λ (k : ℕ). span_of (take k text) o) (sub-zero l.end) ∙ own-wide text l.end o O.upto (omega (arith, O.inside))))
+          sym (O.own ∙ ap (λ (w : Text). w ∷ []) (ap (λ (k : ℕ). span_of (take k text) o) (sub-zero l.end) ∙ span-wide text l.end o O.upto (omega (arith, O.inside))))
 
       one_more : t.n + (t.m + 1) ≡ t.n + t.m + 1
       one_more = omega arith
 
       signals-are : (u : Session) → u.n ≡ t.n → u.m ≡ t.m + 1 → signals_at text u (named ns o) ≡ signals_at text t ns ++ own_names (names (words_at text l))
       signals-are u p q =
-          ap (λ (k : ℕ). names_at text (take k (named ns o).starts) (take k (named ns o).ends)) (ap (λ (k : ℕ). k + u.m) p ∙ ap (λ (k : ℕ). t.n + k) q ∙ one_more)
+          ap (λ (k : ℕ). names_at text (take k (named ns o))) (ap (λ (k : ℕ). k + u.m) p ∙ ap (λ (k : ℕ). t.n + k) q ∙ one_more)
           ∙ more.names-are ∙ ap (λ (ws : List Text). held ++ ws) own_is
 
       module _ (y : Scanned) (Y : RowsRead text l.next (get_or (with_fanins t (map (place_in (signals_at text t ns)) (fanin_names (names (words_at text l))))).arity t.m 0) y) where
@@ -238,7 +237,7 @@ module _ (text : Text) (l : Line) (t : Session) (ns : Names) (F : Fits text t ns
             }
 
   -- the block that the code has read
-  module _ (x : Result Session Refusal) (q : x ≡ gate_of (names_at text (take (t.n + t.m - 0) ns.starts) (take (t.n + t.m - 0) ns.ends)) t (fields (drop l.at (take (l.end - 0) text)))) {u : Session} (z : x ≡ Ok u) where
+  module _ (x : Result Session Refusal) (q : x ≡ gate_of (names_at text (take (t.n + t.m - 0) ns)) t (fields (drop l.at (take (l.end - 0) text)))) {u : Session} (z : x ≡ Ok u) where
     passes_of : first (block_tests_of (signals_at text t ns) t.m (words_at text l)) ≡ Done
     passes_of = sym (answer-of x q) ∙ ap answer_of z
 
@@ -255,16 +254,16 @@ module _ (text : Text) (l : Line) (t : Session) (ns : Names) (F : Fits text t ns
         let g : get_or u.arity t.m 0 ≡ length fs = ap (λ (u : Session). get_or u.arity t.m 0) (session-of x q z) ∙ get_or-set_same t.arity t.m (length fs) 0 (omega arith) in
         omega arith
 
-    pub block-done : length ns.starts ≡ most_signals → length ns.ends ≡ most_signals → (o : Span) (m : Names) (y : Scanned)
+    pub block-done : length ns ≡ most_signals → (o : Span) (m : List Span) (y : Scanned)
         → OwnAt (take (l.end - 0) text) (names (fields (drop l.at (take (l.end - 0) text)))) o
-        → m ≡ record { starts = set ns.starts (t.n + t.m) o.start; ends = set ns.ends (t.n + t.m) o.end }
+        → m ≡ set ns (t.n + t.m) o
         → RowsRead text l.next (get_or u.arity t.m 0) y
         → BlockRead text l t ns (Ok (record { session = with_table u t.m y.table; signals = m; next = y.next }))
-    block-done s e o m y O i Y =
+    block-done s o m y O i Y =
         let W : OwnAt (take (l.end - 0) text) (names line) o = rw (part-line text l) at O in
         let Z : RowsRead text l.next (get_or new.arity t.m 0) y = rw (session-of x q z) at Y in
         record {
           answer-is = sym passes_of;
           further = λ d w. rw (← read-same w) Y.so_far.from;
-          left = λ d w outputs. rw (← read-same w, session-of x q z, i) (block-left s e passes_of o W y Z outputs);
+          left = λ d w outputs. rw (← read-same w, session-of x q z, i) (block-left s passes_of o W y Z outputs);
         }

@@ -21,8 +21,8 @@ use Rattle.text.specs.Words.{Text}
 use Rattle.blif.specs.Text.{statements}
 use Rattle.blif.specs.Read.{names, names_tests, model_test, begun, read_blocks, read_outputs, read_inputs, read_model, read_blif}
 use Rattle.bliftext.specs.Named.{names_at, Inside}
-use Rattle.blifline.specs.declared.Names.{Names}
-use Rattle.blifline.specs.Lines.{Named, Held}
+use Rattle.bliftext.specs.declared.Span.{Span}
+use Rattle.blifline.specs.Lines.{Held}
 use Rattle.blifline.proofs.Holds.{held-wide}
 use Rattle.blifread.specs.declared.Listed.{Listed}
 use Rattle.blifread.specs.Drafts.{draft_of, signals_at, Fits, names_line, ListedAt}
@@ -38,8 +38,8 @@ names-few word most line a e d =
     count-e most (length (names line)) c.1.1.0
 
 -- its names, as places in the text
-pub held-names : (text : Text) (h : ℕ) (S E : List ℕ) (p : ℕ) (fs ws : List Text) → h ≤ length text → Held (take (h - 0) text) S E p fs → fs ≡ ws → Held text S E p ws
-held-names text h S E p fs ws l g e = rw e at (held-wide text h S E p fs l (rw (sub-zero h) at g))
+pub held-names : (text : Text) (h : ℕ) (S : List Span) (p : ℕ) (fs ws : List Text) → h ≤ length text → Held (take (h - 0) text) S p fs → fs ≡ ws → Held text S p ws
+held-names text h S p fs ws l g e = rw e at (held-wide text h S p fs l (rw (sub-zero h) at g))
 
 module _ (word : Text) (most : ℕ) (more : List Text → List (List Text) → Result Session Refusal) (ss : List (List Text)) where
   pub line-none : ss ≡ [] → Err OutsideSubset ≡ names_line word most more ss
@@ -79,35 +79,31 @@ module _ (text : Text) (at : ℕ) (l : Result Listed Refusal) (X : ListedAt text
   outputs-refused ins r z = X.refused r z (λ outs. read_blocks (begun ins outs)) ∙ outputs-line ins (statements (drop at text))
 
   -- the names of the outputs, as the code lends them
-  pub outputs-named : (x : Listed) → l ≡ Ok x → x.count ≤ length x.names.starts → x.count ≤ length x.names.ends
-      → Named text (take (x.count - 0) x.names.starts) (take (x.count - 0) x.names.ends) × (length (take (x.count - 0) x.names.starts) ≤ most_outputs)
-  outputs-named x z s e =
+  pub outputs-inside : (x : Listed) → l ≡ Ok x → x.count ≤ length x.names → Inside text (take (x.count - 0) x.names) × (length (take (x.count - 0) x.names) ≤ most_outputs)
+  outputs-inside x z s =
       let g = X.given x z in
       let f = g.few in
-      let p = part_length x.count (length x.names.starts) x.names.starts refl s in
-      let q = part_length x.count (length x.names.ends) x.names.ends refl e in
-      ((rw (part-zero x.count x.names.starts, part-zero x.count x.names.ends) g.held.inside, p ∙ sym q), omega arith)
+      let p = part_length x.count (length x.names) x.names refl s in
+      (rw (part-zero x.count x.names) g.held.inside, omega arith)
 
-  pub outputs-done : (ins : List Text) (ns : Names) (n : ℕ) (t : Session) (r : Result Session Refusal) (x : Listed) → l ≡ Ok x → Held text ns.starts ns.ends n ins → t ≡ started n 0 x.count
-      → r ≡ read_blocks (draft_of (signals_at text t ns) (names_at text (take (x.count - 0) x.names.starts) (take (x.count - 0) x.names.ends)) t [] 0) (statements (drop x.next text))
+  pub outputs-done : (ins : List Text) (ns : List Span) (n : ℕ) (t : Session) (r : Result Session Refusal) (x : Listed) → l ≡ Ok x → Held text ns n ins → t ≡ started n 0 x.count
+      → r ≡ read_blocks (draft_of (signals_at text t ns) (names_at text (take (x.count - 0) x.names)) t [] 0) (statements (drop x.next text))
       → r ≡ read_outputs ins (statements (drop at text))
   outputs-done ins ns n t r x z h e q =
       let g = X.given x z in
       let rest = statements (drop x.next text) in
       let p = x.count in
-      let S = x.names.starts in
-      let E = x.names.ends in
-      let os = names_at text (take (p - 0) S) (take (p - 0) E) in
+      let os = names_at text (take (p - 0) x.names) in
       q ∙ ap (λ (u : Session). read_blocks (draft_of (signals_at text u ns) os u [] 0) rest) e
-      ∙ ap (λ (k : ℕ). read_blocks (draft_of (names_at text (take k ns.starts) (take k ns.ends)) os (started n 0 p) [] 0) rest) (add-zero n)
+      ∙ ap (λ (k : ℕ). read_blocks (draft_of (names_at text (take k ns)) os (started n 0 p) [] 0) rest) (add-zero n)
       ∙ ap (λ (ws : List Text). read_blocks (draft_of ws os (started n 0 p) [] 0) rest) h.names-are
-      ∙ ap (λ (k : ℕ). read_blocks (draft_of ins (names_at text (take k S) (take k E)) (started n 0 p) [] 0) rest) (sub-zero p)
+      ∙ ap (λ (k : ℕ). read_blocks (draft_of ins (names_at text (take k x.names)) (started n 0 p) [] 0) rest) (sub-zero p)
       ∙ ap (λ (ws : List Text). read_blocks (draft_of ins ws (started n 0 p) [] 0) rest) g.held.names-are
       ∙ ap (λ (k : ℕ). read_blocks (draft_of ins g.listed (started k 0 p) [] 0) rest) (sym h.many)
       ∙ ap (λ (k : ℕ). read_blocks (draft_of ins g.listed (started (length ins) 0 k) [] 0) rest) (sym g.held.many)
       ∙ g.reads (λ outs. read_blocks (begun ins outs)) ∙ outputs-line ins (statements (drop at text))
 
-pub started-fits : (text : Text) (t : Session) (ns : Names) (n p : ℕ) → t ≡ started n 0 p → n ≤ most_inputs → Inside text (take n ns.starts) (take n ns.ends)
+pub started-fits : (text : Text) (t : Session) (ns : List Span) (n p : ℕ) → t ≡ started n 0 p → n ≤ most_inputs → Inside text (take n ns)
     → (t.m ≡ 0) × Fits text t ns
 started-fits text t ns n p e l i = rw e (refl, record { inputs = l; gates = omega arith; inside = rw (add-zero n) i })
 
@@ -118,7 +114,7 @@ module _ (text : Text) (at : ℕ) (l : Result Listed Refusal) (X : ListedAt text
   inputs-refused r z = X.refused r z read_outputs ∙ inputs-line (statements (drop at text))
 
   pub inputs-done : (r : Result Session Refusal) (x : Listed) → l ≡ Ok x
-      → ((ws : List Text) → Held text x.names.starts x.names.ends x.count ws → r ≡ read_outputs ws (statements (drop x.next text)))
+      → ((ws : List Text) → Held text x.names x.count ws → r ≡ read_outputs ws (statements (drop x.next text)))
       → r ≡ read_inputs (statements (drop at text))
   inputs-done r x z f = let g = X.given x z in f g.listed g.held ∙ g.reads read_outputs ∙ inputs-line (statements (drop at text))
 

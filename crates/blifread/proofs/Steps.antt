@@ -17,19 +17,19 @@ use Rattle.network.specs.declared.Refusal.TheVariants.{OutsideSubset}
 use Rattle.text.specs.Words.{Text}
 use Rattle.blif.specs.Text.{fields}
 use Rattle.blif.specs.Read.{place_in, read_rest}
-use Rattle.bliftext.specs.Named.{names_at}
+use Rattle.bliftext.specs.Named.{names_at, Inside}
 use Rattle.bliftext.specs.declared.Line.{Line}
-use Rattle.bliftext.specs.Class.{words_at, LineOf}
-use Rattle.blifline.specs.declared.Names.{Names}
-use Rattle.blifline.specs.Lines.{Named, end_tests_of}
+use Rattle.bliftext.specs.Lines.{words_at, LineOf}
+use Rattle.bliftext.specs.declared.Span.{Span}
+use Rattle.blifline.specs.Lines.{end_tests_of}
 use Rattle.blifread.specs.Drafts.{LineIn, with_fanins, signals_at, Fits, end_of}
 
 -- ## Parts that are lent from their start
 
-pub part-zero : (c : ℕ) (l : List ℕ) → take (c - 0) l ≡ take c l
+pub part-zero : {A : Type 0} (c : ℕ) (l : List A) → take (c - 0) l ≡ take c l
 part-zero c l = rw sub-zero
 
-pub part_length : (c n : ℕ) (l : List ℕ) → length l ≡ n → c ≤ n → length (take (c - 0) l) ≡ c
+pub part_length : {A : Type 0} (c n : ℕ) (l : List A) → length l ≡ n → c ≤ n → length (take (c - 0) l) ≡ c
 part_length c n l e h = rw sub-zero (length-take-le c l (omega arith))
 
 pub line-in : (text : Text) (at : ℕ) (l : Line) → LineOf text at l → LineIn text l
@@ -47,21 +47,15 @@ module _ (text : Text) (l : Line) where
       omega (arith, o.upto)
 
 -- the names of the signals, as the code lends them
-module _ (text : Text) (t : Session) (ns : Names) (F : Fits text t ns) (s : length ns.starts ≡ most_signals) (e : length ns.ends ≡ most_signals) where
-  abbrev c : ℕ
-  c = t.n + t.m
-
+module _ (text : Text) (t : Session) (ns : List Span) (F : Fits text t ns) (s : length ns ≡ most_signals) where
   few : t.n + t.m ≤ most_signals
   few = omega (arith, F.inputs, F.gates)
 
-  pub lent-few : length (take (t.n + t.m - 0) ns.starts) ≤ most_signals
-  lent-few = let q = part_length c most_signals ns.starts s few in omega (arith, few)
+  pub lent-few : length (take (t.n + t.m - 0) ns) ≤ most_signals
+  lent-few = let q = part_length (t.n + t.m) most_signals ns s few in omega (arith, few)
 
-  pub lent-named : Named text (take (t.n + t.m - 0) ns.starts) (take (t.n + t.m - 0) ns.ends)
-  lent-named = (
-    rw (part-zero c ns.starts, part-zero c ns.ends) F.inside,
-    part_length c most_signals ns.starts s few ∙ sym (part_length c most_signals ns.ends e few),
-  )
+  pub lent-inside : Inside text (take (t.n + t.m - 0) ns)
+  lent-inside = rw (part-zero (t.n + t.m) ns) F.inside
 
 -- ## `.end`
 
@@ -91,8 +85,8 @@ module _ (signals outputs : List Text) (t : Session) (line : List Text) (rest : 
   end-done o z q = rw (sym e ∙ z, q)
 
 -- by the places of the signals' names, as the code lends them
-pub end-lent : (text : Text) (l : Line) (t : Session) (ns : Names) (outputs : List Text) (rest : List (List Text))
-    → end_of (names_at text (take (t.n + t.m - 0) ns.starts) (take (t.n + t.m - 0) ns.ends)) outputs t (fields (drop l.at (take (l.end - 0) text))) rest
+pub end-lent : (text : Text) (l : Line) (t : Session) (ns : List Span) (outputs : List Text) (rest : List (List Text))
+    → end_of (names_at text (take (t.n + t.m - 0) ns)) outputs t (fields (drop l.at (take (l.end - 0) text))) rest
     ≡ end_of (signals_at text t ns) outputs t (words_at text l) rest
 end-lent text l t ns outputs rest = rw (sub-zero (t.n + t.m), sub-zero l.end)
 

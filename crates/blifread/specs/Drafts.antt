@@ -13,9 +13,9 @@ use Rattle.text.specs.Words.{Text}
 use Rattle.blif.specs.Text.{statements}
 use Rattle.blif.specs.Read.{Draft, place_in, names, fanin_names, counted, last_arity, is_row, with_table, with_block, with_outputs, names_tests, read_rest, read_blocks}
 use Rattle.bliftext.specs.declared.Line.{Line}
-use Rattle.bliftext.specs.Class.{words_at}
+use Rattle.bliftext.specs.Lines.{words_at}
 use Rattle.bliftext.specs.Named.{names_at, Inside}
-use Rattle.blifline.specs.declared.Names.{Names}
+use Rattle.bliftext.specs.declared.Span.{Span}
 use Rattle.blifline.specs.Rows.{is_row_of, Running}
 use Rattle.blifline.specs.Lines.{Held, block_tests_of, end_tests_of}
 use Rattle.blifread.specs.declared.Scanned.{Scanned}
@@ -64,16 +64,16 @@ abbrev pub gate_of : List Text → Session → List Text → Result Session Refu
 gate_of signals t line = giving (first (block_tests_of signals t.m line)) (with_fanins t (map (place_in signals) (fanin_names (names line))))
 
 -- the names of the signals
-abbrev pub signals_at : Text → Session → Names → List Text
-signals_at text t ns = names_at text (take (t.n + t.m) ns.starts) (take (t.n + t.m) ns.ends)
+abbrev pub signals_at : Text → Session → List Span → List Text
+signals_at text t ns = names_at text (take (t.n + t.m) ns)
 
-pub record Fits (text : Text) (t : Session) (ns : Names) : Type 0 where
+pub record Fits (text : Text) (t : Session) (ns : List Span) : Type 0 where
   pub inputs : t.n ≤ most_inputs
   pub gates : t.m ≤ most_gates
-  pub inside : Inside text (take (t.n + t.m) ns.starts) (take (t.n + t.m) ns.ends)
+  pub inside : Inside text (take (t.n + t.m) ns)
 
 -- the lines from place i on, of which the first is no row of the last block, give the answer
-pub record Left (text : Text) (outputs : List Text) (t : Session) (ns : Names) (i : ℕ) (answer : Result Session Refusal) : Type 0 where
+pub record Left (text : Text) (outputs : List Text) (t : Session) (ns : List Span) (i : ℕ) (answer : Result Session Refusal) : Type 0 where
   pub rows : List Text
   pub digit : ℕ
   pub place : i ≤ length text
@@ -82,7 +82,7 @@ pub record Left (text : Text) (outputs : List Text) (t : Session) (ns : Names) (
   pub reads : read_blocks (draft_of (signals_at text t ns) outputs t rows digit) (statements (drop i text)) ≡ answer
 
 -- what a block is read as
-pub record BlockRead (text : Text) (l : Line) (t : Session) (ns : Names) (r : Result Drafted Refusal) : Type 0 where
+pub record BlockRead (text : Text) (l : Line) (t : Session) (ns : List Span) (r : Result Drafted Refusal) : Type 0 where
   pub answer-is : answer_of r ≡ first (block_tests_of (signals_at text t ns) t.m (words_at text l))
   pub further : (d : Drafted) → r ≡ Ok d → l.next ≤ d.next
   pub left : (d : Drafted) → r ≡ Ok d → (outputs : List Text)
@@ -105,7 +105,7 @@ names_line word most more (line ∷ rest) = onward (first (names_tests word most
 -- its names by their places
 pub record Listing (text : Text) (at : ℕ) (word : Text) (most : ℕ) (r : Listed) : Type 0 where
   pub listed : List Text
-  pub held : Held text r.names.starts r.names.ends r.count listed
+  pub held : Held text r.names r.count listed
   pub few : r.count ≤ most
   pub place : r.next ≤ length text
   pub reads : (more : List Text → List (List Text) → Result Session Refusal) → more listed (statements (drop r.next text)) ≡ names_line word most more (statements (drop at text))

@@ -8,13 +8,12 @@ ghost use Rattle.text.specs.Words.{Text};
 ghost use Rattle.blif.specs.Text.{fields, statements};
 ghost use Rattle.blif.specs.Read.{place_in, names, fanin_names, read_rest, read_blocks, read_outputs, read_inputs, read_blif};
 ghost use Rattle.blif.specs.Read as meaning;
-ghost use Rattle.bliftext.specs.Class.{words_at};
+ghost use Rattle.bliftext.specs.Lines.{words_at};
 ghost use Rattle.bliftext.specs.Named.{names_at, Inside};
-ghost use Rattle.blifline.specs.Lines.{Named, Held};
+ghost use Rattle.blifline.specs.Lines.{Held};
 ghost use Rattle.blifread.specs.Drafts.{LineIn, draft_of, RowsRead, with_fanins, gate_of, signals_at, Fits, BlockRead, end_of, ListedAt};
 
 use bits::{GATE_PLACES, MOST_INPUTS};
-use blifline::Names;
 use bliftext::{Line, Span};
 use network::{MOST_OUTPUTS, MOST_SIGNALS, Refusal, Session};
 
@@ -61,23 +60,16 @@ fn rows(text: &[u8], at: usize, k: u8) -> Scanned
 }
 
 // One gate more: the one of a `.names` line, the constant 0 until rows come.
-fn with_block(
-    t: Session,
-    text: &[u8],
-    starts: &[usize],
-    ends: &[usize],
-    s: &[u8],
-    at: usize,
-) -> Session
-    requires { Named text.now starts.now ends.now × (at ≤ length s.now) × (length starts.now ≤ most_signals) × (t.m < most_gates) × (length (names (fields (drop at s.now))) ≤ most_fanins + 1) }
-    ensures { result ≡ with_fanins t (map (place_in (names_at text.now starts.now ends.now)) (fanin_names (names (fields (drop at s.now))))) }
+fn with_block(t: Session, text: &[u8], signals: &[Span], s: &[u8], at: usize) -> Session
+    requires { Inside text.now signals.now × (at ≤ length s.now) × (length signals.now ≤ most_signals) × (t.m < most_gates) × (length (names (fields (drop at s.now))) ≤ most_fanins + 1) }
+    ensures { result ≡ with_fanins t (map (place_in (names_at text.now signals.now)) (fanin_names (names (fields (drop at s.now))))) }
 {
     let w = bliftext::word_from(s, at);
     let e = w.end;
     let k = blifline::less_one(bliftext::count(s, e));
     let m = t.m as usize;
     let f = t.fanins;
-    let g = blifline::fanins(text, starts, ends, s, e, k, f, GATE_PLACES * m);
+    let g = blifline::fanins(text, signals, s, e, k, f, GATE_PLACES * m);
     let mut u = t;
     u.m = t.m + 1;
     u.arity[m] = k as u8;
@@ -88,53 +80,34 @@ fn with_block(
 }
 
 // The same where the line passes its tests.
-fn gate(
-    t: Session,
-    text: &[u8],
-    starts: &[usize],
-    ends: &[usize],
-    s: &[u8],
-    at: usize,
-) -> Result<Session, Refusal>
-    requires { Named text.now starts.now ends.now × (at ≤ length s.now) × (length starts.now ≤ most_signals) × (t.m ≤ most_gates) }
-    ensures { result ≡ gate_of (names_at text.now starts.now ends.now) t (fields (drop at s.now)) }
+fn gate(t: Session, text: &[u8], signals: &[Span], s: &[u8], at: usize) -> Result<Session, Refusal>
+    requires { Inside text.now signals.now × (at ≤ length s.now) × (length signals.now ≤ most_signals) × (t.m ≤ most_gates) }
+    ensures { result ≡ gate_of (names_at text.now signals.now) t (fields (drop at s.now)) }
 {
-    blifline::block_test(text, starts, ends, s, at, t.m as usize)?;
-    let u = with_block(t, text, starts, ends, s, at);
+    blifline::block_test(text, signals, s, at, t.m as usize)?;
+    let u = with_block(t, text, signals, s, at);
     Ok(u)
-}
-
-// One name more.
-fn with_name(ns: Names, c: usize, w: Span) -> Names
-    requires { c < most_signals }
-    ensures { result ≡ record { starts = set ns.starts c w.start; ends = set ns.ends c w.end } }
-{
-    let mut r = ns;
-    r.starts[c] = w.start;
-    r.ends[c] = w.end;
-    r
 }
 
 // What has been read behind a block: the network and the names of its signals, and the place of the next line.
 #[derive(Drop)]
 struct Drafted {
     session: Session,
-    signals: Names,
+    signals: [Span; MOST_SIGNALS],
     next: usize,
 }
 
 // One block: its `.names` line, then its rows.
-fn block(text: &[u8], l: Line, t: Session, ns: Names) -> Result<Drafted, Refusal>
+fn block(text: &[u8], l: Line, t: Session, ns: [Span; MOST_SIGNALS]) -> Result<Drafted, Refusal>
     requires { LineIn text.now l × Fits text.now t ns }
     ensures { BlockRead text.now l t ns result }
 {
     let h = l.end;
     let s = &text[0..h];
-    let starts = ns.starts;
-    let ends = ns.ends;
     let c = (t.n + t.m) as usize;
-    let x = gate(t, text, &starts[0..c], &ends[0..c], s, l.at)?;
-    let more = with_name(ns, c, blifline::own(s, l.at));
+    let x = gate(t, text, &ns[0..c], s, l.at)?;
+    let mut more = ns;
+    more[c] = blifline::own(s, l.at);
     let g = t.m as usize;
     let y = rows(text, l.next, x.arity[g]);
     let mut u = x;
@@ -161,20 +134,18 @@ fn rest(text: &[u8], at: usize, t: Session) -> Result<Session, Refusal>
 // The `.end` line, whose words stand in s, and what follows it.
 fn finish(
     text: &[u8],
-    starts: &[usize],
-    ends: &[usize],
-    outs: &[usize],
-    stops: &[usize],
+    signals: &[Span],
+    outputs: &[Span],
     s: &[u8],
     l: Line,
     t: Session,
 ) -> Result<Session, Refusal>
-    requires { Named text.now starts.now ends.now × Named text.now outs.now stops.now × (l.at ≤ length s.now) × (length outs.now ≤ most_outputs) × (length starts.now ≤ most_signals) × (l.next ≤ length text.now) }
-    ensures { result ≡ end_of (names_at text.now starts.now ends.now) (names_at text.now outs.now stops.now) t (fields (drop l.at s.now)) (statements (drop l.next text.now)) }
+    requires { Inside text.now signals.now × Inside text.now outputs.now × (l.at ≤ length s.now) × (length outputs.now ≤ most_outputs) × (length signals.now ≤ most_signals) × (l.next ≤ length text.now) }
+    ensures { result ≡ end_of (names_at text.now signals.now) (names_at text.now outputs.now) t (fields (drop l.at s.now)) (statements (drop l.next text.now)) }
 {
-    blifline::end_test(text, starts, ends, outs, stops, s, l.at, t.m as usize)?;
+    blifline::end_test(text, signals, outputs, s, l.at, t.m as usize)?;
     let o = t.outputs;
-    let f = blifline::put_outputs(text, starts, ends, outs, stops, o);
+    let f = blifline::put_outputs(text, signals, outputs, o);
     let mut u = t;
     u.outputs = f;
     rest(text, l.next, u)
@@ -185,27 +156,15 @@ fn end(
     text: &[u8],
     l: Line,
     t: Session,
-    ns: Names,
-    outs: &[usize],
-    stops: &[usize],
+    ns: [Span; MOST_SIGNALS],
+    outputs: &[Span],
 ) -> Result<Session, Refusal>
-    requires { LineIn text.now l × Fits text.now t ns × Named text.now outs.now stops.now × (length outs.now ≤ most_outputs) }
-    ensures { result ≡ end_of (signals_at text.now t ns) (names_at text.now outs.now stops.now) t (words_at text.now l) (statements (drop l.next text.now)) }
+    requires { LineIn text.now l × Fits text.now t ns × Inside text.now outputs.now × (length outputs.now ≤ most_outputs) }
+    ensures { result ≡ end_of (signals_at text.now t ns) (names_at text.now outputs.now) t (words_at text.now l) (statements (drop l.next text.now)) }
 {
     let h = l.end;
-    let starts = ns.starts;
-    let ends = ns.ends;
     let c = (t.n + t.m) as usize;
-    finish(
-        text,
-        &starts[0..c],
-        &ends[0..c],
-        outs,
-        stops,
-        &text[0..h],
-        l,
-        t,
-    )
+    finish(text, &ns[0..c], outputs, &text[0..h], l, t)
 }
 
 // Blocks, then `.end`.
@@ -213,19 +172,18 @@ fn blocks(
     text: &[u8],
     at: usize,
     t: Session,
-    ins: Names,
-    outs: &[usize],
-    stops: &[usize],
+    ins: [Span; MOST_SIGNALS],
+    outputs: &[Span],
 ) -> Result<Session, Refusal>
-    requires { (at ≤ length text.now) × (t.m ≡ 0) × Fits text.now t ins × Named text.now outs.now stops.now × (length outs.now ≤ most_outputs) }
-    ensures { result ≡ read_blocks (draft_of (signals_at text.now t ins) (names_at text.now outs.now stops.now) t [] 0) (statements (drop at text.now)) }
+    requires { (at ≤ length text.now) × (t.m ≡ 0) × Fits text.now t ins × Inside text.now outputs.now × (length outputs.now ≤ most_outputs) }
+    ensures { result ≡ read_blocks (draft_of (signals_at text.now t ins) (names_at text.now outputs.now) t [] 0) (statements (drop at text.now)) }
 {
     let mut u = t;
     let mut ns = ins;
     let mut i = at;
     while let Some(l) = bliftext::line_from(text, i) {
         if opens(text, l, b".end") {
-            return end(text, l, u, ns, outs, stops);
+            return end(text, l, u, ns, outputs);
         }
         if !opens(text, l, b".names") {
             return Err(Refusal::OutsideSubset);
@@ -241,7 +199,7 @@ fn blocks(
 // A line of names: these by their places, their number, and the place of the next line.
 #[derive(Drop)]
 struct Listed {
-    names: Names,
+    names: [Span; MOST_SIGNALS],
     count: usize,
     next: usize,
 }
@@ -269,17 +227,14 @@ fn names_line(text: &[u8], at: usize, word: &[u8], most: usize) -> Result<Listed
 }
 
 // The `.outputs` line, then the blocks; the first n names are those of the inputs.
-fn outputs(text: &[u8], at: usize, ins: Names, n: usize) -> Result<Session, Refusal>
-    requires { (at ≤ length text.now) × (n ≤ most_inputs) × Inside text.now (take n ins.starts) (take n ins.ends) }
-    ensures { (ws : List Text) → Held text.now ins.starts ins.ends n ws → result ≡ read_outputs ws (statements (drop at text.now)) }
+fn outputs(text: &[u8], at: usize, ins: [Span; MOST_SIGNALS], n: usize) -> Result<Session, Refusal>
+    requires { (at ≤ length text.now) × (n ≤ most_inputs) × Inside text.now (take n ins) }
+    ensures { (ws : List Text) → Held text.now ins n ws → result ≡ read_outputs ws (statements (drop at text.now)) }
 {
     let x = names_line(text, at, b".outputs", MOST_OUTPUTS)?;
     let p = x.count;
-    let outs = x.names;
-    let starts = outs.starts;
-    let ends = outs.ends;
     let t = network::started(n as u8, 0, p as u8);
-    blocks(text, x.next, t, ins, &starts[0..p], &ends[0..p])
+    blocks(text, x.next, t, ins, &x.names[0..p])
 }
 
 // The `.inputs` line, then the others.

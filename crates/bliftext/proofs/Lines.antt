@@ -11,8 +11,7 @@ use Rattle.blif.specs.Text.{is_blank, is_newline, is_hash, fields, statement, st
 use Rattle.text.proofs.Parts.{behind, take-before}
 use Rattle.text.proofs.Places.{begin, word}
 use Rattle.blif.proofs.Statements.{statements-step}
-use Rattle.bliftext.specs.declared.Class.TheVariants.{Newline, Hash, Filled}
-use Rattle.bliftext.specs.Class.{in_class, LineAt}
+use Rattle.bliftext.specs.Lines.{is_filled, LineAt}
 
 -- past the end nothing is left
 pub past_end : (s : Text) (i : ℕ) → length s ≤ i → drop i s ≡ drop (i + 1) s
@@ -24,7 +23,7 @@ drop-take (suc i) zero [] = rw (suc-add i zero)
 drop-take (suc i) (suc n) [] = rw (suc-add i (suc n))
 drop-take (suc i) n (x ∷ xs) = rw (suc-add i n) (drop-take i n xs)
 
-module _ (text : Text) (i e h : ℕ) (ends : e ≡ i + length (before (in_class Newline) (drop i text))) (cut : h ≡ i + length (before (in_class Hash) (drop i (take e text)))) where
+module _ (text : Text) (i e h : ℕ) (ends : e ≡ i + length (before is_newline (drop i text))) (cut : h ≡ i + length (before is_hash (drop i (take e text)))) where
   abbrev xs : Text
   xs = drop i text
 
@@ -54,7 +53,7 @@ module _ (text : Text) (i e h : ℕ) (ends : e ≡ i + length (before (in_class 
   statements-are : statements xs ≡ keep (fields (drop i (take h text))) (statements (drop (e + 1) text))
   statements-are = statements-step xs ∙ ap (λ (l : Text). keep (statement line) (statements l)) behind-is ∙ ap (λ (ws : List Text). keep ws (statements (drop (e + 1) text))) (sym words_are)
 
-  module _ (w next : ℕ) (first : w ≡ i + length (before (in_class Filled) (drop i (take h text)))) (below : w ≤ length (take h text)) (after : drop next text ≡ drop (e + 1) text) (inside : h ≤ length text) where
+  module _ (w next : ℕ) (first : w ≡ i + length (before is_filled (drop i (take h text)))) (below : w ≤ length (take h text)) (after : drop next text ≡ drop (e + 1) text) (inside : h ≤ length text) where
     -- the line has a word
     pub some_words : w < h → statements xs ≡ fields (drop w (take h text)) ∷ statements (drop next text)
     some_words l =
@@ -82,9 +81,9 @@ module _ (text : Text) (i e h : ℕ) (ends : e ≡ i + length (before (in_class 
 
 -- what three searches find
 pub line-found : (text : Text) (i e h w next : ℕ)
-    → (e ≡ i + length (before (in_class Newline) (drop i text))) × (e ≤ length text)
-    → (h ≡ i + length (before (in_class Hash) (drop i (take (e - 0) text)))) × (h ≤ length (take (e - 0) text))
-    → (w ≡ i + length (before (in_class Filled) (drop i (take (h - 0) text)))) × (w ≤ length (take (h - 0) text))
+    → (e ≡ i + length (before is_newline (drop i text))) × (e ≤ length text)
+    → (h ≡ i + length (before is_hash (drop i (take (e - 0) text)))) × (h ≤ length (take (e - 0) text))
+    → (w ≡ i + length (before is_filled (drop i (take (h - 0) text)))) × (w ≤ length (take (h - 0) text))
     → drop next text ≡ drop (e + 1) text → e ≤ next → next ≤ length text → i < next
     → LineAt text i (record { at = w; end = h; next = next })
 line-found text i e h w next ends cut first after l most on =

@@ -9,8 +9,10 @@ use lib.ListN.{length, get_or, drop, drop_of_length-le}
 use lib.Seq.{drop-cons}
 use Rattle.text.specs.Words.{Text}
 use Rattle.blif.specs.Read.{same, place_in}
-use Rattle.bits.proofs.Ranges.{length-places, places-at}
-use Rattle.bliftext.specs.Named.{name_at, names_at}
+use Rattle.std.proofs.lemmas.List.{get_or-map, length-map}
+use Rattle.bliftext.specs.declared.Span.{Span}
+use Rattle.bliftext.specs.Spans.{span_of}
+use Rattle.bliftext.specs.Named.{names_at}
 
 module _ (names : List Text) (w : Text) (i : ℕ) (h : i < length names) where
   at_name : drop i names ≡ get_or names i [] ∷ drop (i + 1) names
@@ -26,8 +28,8 @@ pub nowhere : (names : List Text) (w : Text) (i : ℕ) → length names ≤ i �
 nowhere names w i h = rw (drop_of_length-le names {i = i} h) (omega arith)
 
 -- the name at place i is what stands there
-pub name-is : (text : Text) (starts ends : List ℕ) (i : ℕ) → i < length starts → get_or (names_at text starts ends) i [] ≡ name_at text starts ends i
-name-is text starts ends i h = places-at [] (length starts) (name_at text starts ends) i h
+pub name-is : (text : Text) (names : List Span) (i : ℕ) (d : Span) → i < length names → get_or (names_at text names) i [] ≡ span_of text (get_or names i d)
+name-is text names i d h = get_or-map (span_of text) names i d [] h
 
-pub many : (text : Text) (starts ends : List ℕ) → length (names_at text starts ends) ≡ length starts
-many text starts ends = length-places (length starts) (name_at text starts ends)
+pub many : (text : Text) (names : List Span) → length (names_at text names) ≡ length names
+many text names = length-map names (span_of text)

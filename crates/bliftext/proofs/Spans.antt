@@ -14,15 +14,14 @@ use Rattle.blif.specs.Text.{is_blank, fields}
 use Rattle.blif.specs.Read.{foreign}
 use Rattle.text.proofs.Parts.{parts_first}
 use Rattle.text.proofs.Places.{begin, word}
-use Rattle.bliftext.specs.declared.Class.TheVariants.{Filled, Blank, Foreign}
 use Rattle.bliftext.specs.declared.Span.{Span}
-use Rattle.bliftext.specs.Class.{in_class}
+use Rattle.bliftext.specs.Lines.{is_filled, is_foreign}
 use Rattle.bliftext.specs.Spans.{span_of, words_from, WordAt}
 
 -- what two searches find
 pub word-found : (s : Text) (at w e : ℕ)
-    → (w ≡ at + length (before (in_class Filled) (drop at s))) × (w ≤ length s)
-    → (e ≡ w + length (before (in_class Blank) (drop w s))) × (e ≤ length s)
+    → (w ≡ at + length (before is_filled (drop at s))) × (w ≤ length s)
+    → (e ≡ w + length (before is_blank (drop w s))) × (e ≤ length s)
     → WordAt s at (fields (drop at s)) (record { start = w; end = e })
 unfolding words
 word-found s at w e f g =
@@ -95,13 +94,13 @@ all-parts (b ∷ bs) =
     ∙ ap (λ (ps : List Text). fits b && all (all is_printing) ps) (sym (parts_first is_blank bs))
     ∙ ap (λ (c : Bool). fits b && c) (all-parts bs)
 
-search-all : (xs : Text) → ltb (length (before (in_class Foreign) xs)) (length xs) ≡ not (all fits xs)
+search-all : (xs : Text) → ltb (length (before is_foreign xs)) (length xs) ≡ not (all fits xs)
 search-all [] = refl
 search-all (b ∷ bs) = go (fits b) (search-all bs)
   where
-    go : (c : Bool) → ltb (length (before (in_class Foreign) bs)) (length bs) ≡ not (all fits bs)
-        → ltb (length (cond (not c) [] (b ∷ before (in_class Foreign) bs))) (suc (length bs)) ≡ not (c && all fits bs)
-    go true e = leb-suc-suc (suc (length (before (in_class Foreign) bs))) (length bs) ∙ e
+    go : (c : Bool) → ltb (length (before is_foreign bs)) (length bs) ≡ not (all fits bs)
+        → ltb (length (cond (not c) [] (b ∷ before is_foreign bs))) (suc (length bs)) ≡ not (c && all fits bs)
+    go true e = leb-suc-suc (suc (length (before is_foreign bs))) (length bs) ∙ e
     go false e = lt-ltb 0 (suc (length bs)) (omega arith)
 
 ltb-shift : (i a n : ℕ) → ltb (i + a) n ≡ ltb a (n - i)
@@ -110,12 +109,12 @@ ltb-shift i a n =
     (λ t. let l = ltb-true (i + a) n t in t ∙ sym (lt-ltb a (n - i) (omega arith)))
     (λ t. let l = ltb-false (i + a) n t in t ∙ sym (le-ltb a (n - i) (omega arith)))
 
-pub foreign-is : (s : Text) (at r : ℕ) → r ≡ at + length (before (in_class Foreign) (drop at s)) → ltb r (length s) ≡ foreign (fields (drop at s))
+pub foreign-is : (s : Text) (at r : ℕ) → r ≡ at + length (before is_foreign (drop at s)) → ltb r (length s) ≡ foreign (fields (drop at s))
 unfolding words
 foreign-is s at r e =
     ap (λ (k : ℕ). ltb k (length s)) e
-    ∙ ltb-shift at (length (before (in_class Foreign) (drop at s))) (length s)
-    ∙ ap (ltb (length (before (in_class Foreign) (drop at s)))) (sym (length-drop at s))
+    ∙ ltb-shift at (length (before is_foreign (drop at s))) (length s)
+    ∙ ap (ltb (length (before is_foreign (drop at s)))) (sym (length-drop at s))
     ∙ search-all (drop at s)
     ∙ ap not (sym (all-non_empty (parts is_blank (drop at s)) ∙ all-parts (drop at s)))
 

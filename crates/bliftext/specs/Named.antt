@@ -1,15 +1,18 @@
 -- Names as places in a text. Assumes nothing.
-use Rattle.std.specs.Prelude.{List, ℕ, ◌-◌, ◌≤◌, ◌<◌, length, get_or, take, drop}
-use Rattle.bits.specs.Range.{places}
+use Rattle.std.specs.Prelude.{List, map, ◌≤◌, length}
+use Rattle.std.specs.List.{All}
 use Rattle.text.specs.Words.{Text}
-
-abbrev pub name_at : Text → List ℕ → List ℕ → ℕ → Text
-name_at text starts ends i = take (get_or ends i 0 - get_or starts i 0) (drop (get_or starts i 0) text)
+use Rattle.bliftext.specs.declared.Span.{Span}
+use Rattle.bliftext.specs.Spans.{span_of}
 
 -- the names that stand at these places
-abbrev pub names_at : Text → List ℕ → List ℕ → List Text
-names_at text starts ends = places (length starts) (name_at text starts ends)
+abbrev pub names_at : Text → List Span → List Text
+names_at text names = map (span_of text) names
 
-pub record Inside (text : Text) (starts ends : List ℕ) : Type 0 where
-  pub ordered : (i : ℕ) → i < length starts → get_or starts i 0 ≤ get_or ends i 0
-  pub within : (i : ℕ) → i < length starts → get_or ends i 0 ≤ length text
+-- the span lies in the text
+pub record Lies (text : Text) (w : Span) : Type 0 where
+  pub upto : w.start ≤ w.end
+  pub inside : w.end ≤ length text
+
+abbrev pub Inside : Text → List Span → Type 0
+Inside text names = All (Lies text) names

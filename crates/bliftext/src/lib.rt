@@ -1,24 +1,14 @@
 // BLIF: lines, words and names of a lent text, by their places in it.
 #![tactic(auto)]
 
-ghost use Rattle.std.specs.Prelude.{◌≡◌, true, not, ◌||◌, ◌+◌, ◌≤◌, ◌<◌, length, drop};
+ghost use Rattle.std.specs.Prelude.{◌≡◌, Bool, true, not, ◌||◌, ℕ, ◌+◌, ◌≤◌, ◌<◌, length, drop};
 ghost use Rattle.text.specs.Words.{is_printing, before};
 ghost use Rattle.blif.specs.Text.{is_blank, fields};
 ghost use Rattle.blif.specs.Read.{place_in, known, repeats};
 ghost use Rattle.blif.specs.Read as read;
 ghost use Rattle.bliftext.specs.Named.{names_at, Inside};
-ghost use Rattle.bliftext.specs.Class.{in_class, LineAt, NextOf};
+ghost use Rattle.bliftext.specs.Lines.{Computes, LineAt, NextOf};
 ghost use Rattle.bliftext.specs.Spans.{WordAt};
-
-// What a byte is looked for as.
-#[derive(Clone, Copy)]
-pub enum Class {
-    Newline,
-    Hash,
-    Blank,
-    Filled,
-    Foreign,
-}
 
 fn blank(b: u8) -> bool
     ensures { result ≡ is_blank b }
@@ -42,25 +32,15 @@ fn outside(b: u8) -> bool
     !blank(b)
 }
 
-fn is(c: Class, b: u8) -> bool
-    ensures { result ≡ in_class c b }
-{
-    match c {
-        Class::Newline => b == 0x0A,
-        Class::Hash => b == 0x23,
-        Class::Blank => blank(b),
-        Class::Filled => !blank(b),
-        Class::Foreign => outside(b),
-    }
-}
-
-// The first place from `at` on that has a byte of the class; the end where there is none.
-pub fn find(s: &[u8], at: usize, c: Class) -> usize
-    requires { at ≤ length s.now }
-    ensures { (result ≡ at + length (before (in_class c) (drop at s.now))) × (result ≤ length s.now) }
+// The first place from `at` on whose byte passes the test; the end where there is none.
+fn find<F: Fn(u8) -> bool>(s: &[u8], at: usize, is: F) -> usize
+    requires callable { F.IsAlwaysCallable is }
+    requires start { at ≤ length s.now }
+    ensures first { (cut : ℕ → Bool) → Computes (F.post is) cut → result ≡ at + length (before cut (drop at s.now)) }
+    ensures within { (at ≤ result) × (result ≤ length s.now) }
 {
     for p in at..s.len() {
-        if is(c, s[p]) {
+        if is(s[p]) {
             return p;
         }
     }
@@ -80,9 +60,9 @@ pub fn line_at(text: &[u8], i: usize) -> Line
     requires { i < length text.now }
     ensures { LineAt text.now i result }
 {
-    let e = find(text, i, Class::Newline);
-    let h = find(&text[0..e], i, Class::Hash);
-    let w = find(&text[0..h], i, Class::Filled);
+    let e = find(text, i, |b| b == b'\n');
+    let h = find(&text[0..e], i, |b| b == b'#');
+    let w = find(&text[0..h], i, |b| !blank(b));
     if e < text.len() {
         return Line {
             at: w,
@@ -113,24 +93,24 @@ pub fn line_from(text: &[u8], at: usize) -> Option<Line>
     None
 }
 
-// The place of a name among the names that stand at these places of the text; their number where it is none of them.
-pub fn place_of(text: &[u8], starts: &[usize], ends: &[usize], w: &[u8]) -> usize
-    requires { Inside text.now starts.now ends.now × (length starts.now ≡ length ends.now) }
-    ensures { result ≡ place_in (names_at text.now starts.now ends.now) w.now }
-{
-    for i in 0..starts.len() {
-        if &text[starts[i]..ends[i]] == w {
-            return i;
-        }
-    }
-    starts.len()
-}
-
 // A word of a text by its places, or no word where `start` is `end`.
-#[derive(Drop)]
+#[derive(Clone, Copy)]
 pub struct Span {
     pub start: usize,
     pub end: usize,
+}
+
+// The place of a name among the names that stand at these places of the text; their number where it is none of them.
+pub fn place_of(text: &[u8], names: &[Span], w: &[u8]) -> usize
+    requires { Inside text.now names.now }
+    ensures { result ≡ place_in (names_at text.now names.now) w.now }
+{
+    for (i, name) in names.iter().enumerate() {
+        if &text[name.start..name.end] == w {
+            return i;
+        }
+    }
+    names.len()
 }
 
 // The first word from `at` on; none where no word is left.
@@ -138,8 +118,8 @@ pub fn word_from(s: &[u8], at: usize) -> Span
     requires { at ≤ length s.now }
     ensures { WordAt s.now at (fields (drop at s.now)) result }
 {
-    let w = find(s, at, Class::Filled);
-    let e = find(s, w, Class::Blank);
+    let w = find(s, at, |b| !blank(b));
+    let e = find(s, w, blank);
     Span { start: w, end: e }
 }
 
@@ -201,7 +181,7 @@ pub fn foreign(s: &[u8], at: usize) -> bool
     requires { at ≤ length s.now }
     ensures { result ≡ read.foreign (fields (drop at s.now)) }
 {
-    find(s, at, Class::Foreign) < s.len()
+    find(s, at, outside) < s.len()
 }
 
 // The word behind the first k words from `at` on; none where there are no more.

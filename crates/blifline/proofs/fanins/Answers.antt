@@ -13,15 +13,15 @@ use Rattle.blifline.proofs.fanins.Goals as goal
 pub overflow_cast-u : goal.overflow_cast-u
 overflow_cast-u c =
     let a = c.args in
-    let ns = names_at a.text.now a.starts.now a.ends.now in
+    let ns = names_at a.text.now a.signals.now in
     let ws = fields (drop a.at a.s.now) in
     let h = c.loop-i in
-    omega (arith, place-few a.text.now a.starts.now a.ends.now (span_of a.s.now h.x) c.place_of.result c.place_of.ensures)
+    omega (arith, place-few a.text.now a.signals.now (span_of a.s.now h.x) c.place_of.result c.place_of.ensures)
 
 pub loop-i-preserved : goal.loop-i-preserved
 loop-i-preserved c =
     let a = c.args in
-    let ns = names_at a.text.now a.starts.now a.ends.now in
+    let ns = names_at a.text.now a.signals.now in
     let ws = fields (drop a.at a.s.now) in
     let h = c.loop-i in
     let p = c.place_of in

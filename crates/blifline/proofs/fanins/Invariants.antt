@@ -10,4 +10,4 @@ use Rattle.bliftext.specs.Spans.{WordAt}
 use Rattle.blifline.proofs.fanins.Given as goal
 
 abbrev pub invariant-loop-i : goal.invariant-loop-i
-invariant-loop-i l = WordAt l.s l.at (drop l.i (fields (drop l.at l.s))) l.x × (sets l.u (l.b + l.i) (map (place_in (names_at l.text l.starts l.ends)) (take (l.k - l.i) (drop l.i (fields (drop l.at l.s))))) ≡ sets l.initial.u l.b (map (place_in (names_at l.text l.starts l.ends)) (take l.k (fields (drop l.at l.s)))))
+invariant-loop-i l = WordAt l.s l.at (drop l.i (fields (drop l.at l.s))) l.x × (sets l.u (l.b + l.i) (map (place_in (names_at l.text l.signals)) (take (l.k - l.i) (drop l.i (fields (drop l.at l.s))))) ≡ sets l.initial.u l.b (map (place_in (names_at l.text l.signals)) (take l.k (fields (drop l.at l.s)))))

@@ -13,4 +13,4 @@ loop-i-preserved c =
     let ws = fields (drop a.at a.s.now) in
     let h = c.loop-i in
     let y = c.word_from-x-in-loop-i in
-    (search rules, search rules, word_next a.s.now a.at h.i ws h.x y.result h.invariant.2 y.ensures, held_word a.s.now h.starts h.ends a.at h.i ws h.x h.invariant.3 h.invariant.2 (omega arith) (omega arith) (omega arith))
+    (search rules, word_next a.s.now a.at h.i ws h.x y.result h.invariant.1 y.ensures, held_word a.s.now h.names a.at h.i ws h.x h.invariant.2 h.invariant.1 (omega arith) (omega arith))

@@ -7,4 +7,4 @@ use Rattle.blifline.specs.Lines.{Held}
 use Rattle.blifline.proofs.names_at.Given as goal
 
 abbrev pub invariant-loop-i : goal.invariant-loop-i
-invariant-loop-i l = (length l.starts ≡ most_signals) × (length l.ends ≡ most_signals) × WordAt l.s l.at (drop l.i (fields (drop l.at l.s))) l.x × Held l.s l.starts l.ends l.i (take l.i (fields (drop l.at l.s)))
+invariant-loop-i l = (length l.names ≡ most_signals) × WordAt l.s l.at (drop l.i (fields (drop l.at l.s))) l.x × Held l.s l.names l.i (take l.i (fields (drop l.at l.s)))

@@ -5,5 +5,5 @@ use Rattle.blif.specs.Read.{known}
 use Rattle.bliftext.specs.Named.{names_at}
 use Rattle.blifline.proofs.outputs_known.Given as goal
 
-abbrev pub invariant-loop-i : goal.invariant-loop-i
-invariant-loop-i l = (all (known (names_at l.text l.starts l.ends)) (drop l.i (names_at l.text l.outs l.stops)) ≡ all (known (names_at l.text l.starts l.ends)) (names_at l.text l.outs l.stops))
+abbrev pub invariant-loop-o : goal.invariant-loop-o
+invariant-loop-o l = (all (known (names_at l.text l.signals)) (drop l.o-index (names_at l.text l.outputs)) ≡ all (known (names_at l.text l.signals)) (names_at l.text l.outputs))

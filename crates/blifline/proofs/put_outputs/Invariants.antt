@@ -8,4 +8,4 @@ use Rattle.blifline.proofs.put_outputs.Given as goal
 
 abbrev pub invariant-loop-i : goal.invariant-loop-i
 invariant-loop-i l =
-    (sets l.u l.i (map (place_in (names_at l.text l.starts l.ends)) (drop l.i (names_at l.text l.outs l.stops))) ≡ sets l.initial.u 0 (map (place_in (names_at l.text l.starts l.ends)) (names_at l.text l.outs l.stops)))
+    (sets l.u l.i (map (place_in (names_at l.text l.signals)) (drop l.i (names_at l.text l.outputs))) ≡ sets l.initial.u 0 (map (place_in (names_at l.text l.signals)) (names_at l.text l.outputs)))

@@ -15,14 +15,12 @@ returns-in_err-x c =
 pub rows-y-requires : goal.rows-y-requires
 rows-y-requires c =
     let a = c.args in
-    let h : length a.t.arity ≡ most_gates = search (rules, c.well_formed.1.1.0.1.1.1.1.1.1.0) in
+    let h : length a.t.arity ≡ most_gates = search rules in
     (c.requires.0.inside, arity-few a.text.now a.l a.t a.ns c.requires.1 c.requires.0 c.gate.result c.gate.ensures c.in_ok-x.was h)
 
 pub returns : goal.returns
 returns c =
     let a = c.args in
     let o = c.own in
-    let m = c.with_name-more in
-    let hs : length a.ns.starts ≡ most_signals = search (rules, c.well_formed.1.1.1.0) in
-    let he : length a.ns.ends ≡ most_signals = search (rules, c.well_formed.1.1.1.0.1.1.1.0) in
-    block-done a.text.now a.l a.t a.ns c.requires.1 c.requires.0 c.gate.result c.gate.ensures c.in_ok-x.was hs he o.result m.result c.rows-y.result o.ensures m.ensures c.rows-y.ensures
+    let h : length a.ns ≡ most_signals = search rules in
+    block-done a.text.now a.l a.t a.ns c.requires.1 c.requires.0 c.gate.result c.gate.ensures c.in_ok-x.was h o.result _ c.rows-y.result o.ensures refl c.rows-y.ensures

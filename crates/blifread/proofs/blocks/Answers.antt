@@ -14,7 +14,7 @@ pub returns-then-opens : goal.returns-then-opens
 returns-then-opens c =
     let a = c.args in
     let text = a.text.now in
-    let os = names_at text a.outs.now a.stops.now in
+    let os = names_at text a.outputs.now in
     let due = read_blocks (draft_of (signals_at text a.t a.ins) os a.t [] 0) (statements (drop a.at text)) in
     let h = c.loop-l in
     let n = c.line_from in
@@ -26,7 +26,7 @@ pub returns-then-not-opens : goal.returns-then-not-opens
 returns-then-not-opens c =
     let a = c.args in
     let text = a.text.now in
-    let os = names_at text a.outs.now a.stops.now in
+    let os = names_at text a.outputs.now in
     let due = read_blocks (draft_of (signals_at text a.t a.ins) os a.t [] 0) (statements (drop a.at text)) in
     let h = c.loop-l in
     let n = c.line_from in
@@ -39,7 +39,7 @@ pub returns-in_err-b : goal.returns-in_err-b
 returns-in_err-b c =
     let a = c.args in
     let text = a.text.now in
-    let os = names_at text a.outs.now a.stops.now in
+    let os = names_at text a.outputs.now in
     let due = read_blocks (draft_of (signals_at text a.t a.ins) os a.t [] 0) (statements (drop a.at text)) in
     let h = c.loop-l in
     let n = c.line_from in
@@ -53,7 +53,7 @@ pub loop-l-preserved : goal.loop-l-preserved
 loop-l-preserved c =
     let a = c.args in
     let text = a.text.now in
-    let os = names_at text a.outs.now a.stops.now in
+    let os = names_at text a.outputs.now in
     let due = read_blocks (draft_of (signals_at text a.t a.ins) os a.t [] 0) (statements (drop a.at text)) in
     let h = c.loop-l in
     let n = c.line_from in
@@ -67,7 +67,7 @@ pub returns : goal.returns
 returns c =
     let a = c.args in
     let text = a.text.now in
-    let os = names_at text a.outs.now a.stops.now in
+    let os = names_at text a.outputs.now in
     let due = read_blocks (draft_of (signals_at text a.t a.ins) os a.t [] 0) (statements (drop a.at text)) in
     let h = c.loop-l in
     turn-stop text os h.u h.ns h.i due h.invariant c.in_default.ensures

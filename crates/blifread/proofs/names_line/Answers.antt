@@ -9,7 +9,7 @@ use Rattle.network.proofs.TestLaws.{refused-done}
 use Rattle.text.specs.Words.{Text}
 use Rattle.blif.specs.Text.{statements}
 use Rattle.blif.specs.Read.{names, names_tests}
-use Rattle.bliftext.specs.Class.{words_at}
+use Rattle.bliftext.specs.Lines.{words_at}
 use Rattle.blifread.proofs.Steps.{part-line}
 use Rattle.blifread.proofs.Phases.{names-few, held-names, line-done, listed-same}
 use Rattle.blifread.proofs.names_line.Goals as goal
@@ -32,7 +32,7 @@ returns c =
       refused = λ q z. refused-done q (sym (ap answer_of z));
       given = λ x d. rw (← listed-same d) (record {
         listed = names (words_at text l);
-        held = held-names text l.end c.names_at-ns.result.starts c.names_at-ns.result.ends k.result _ (names (words_at text l)) (omega (arith, lo.within, lo.inside)) c.names_at-ns.ensures
+        held = held-names text l.end c.names_at-ns.result k.result _ (names (words_at text l)) (omega (arith, lo.within, lo.inside)) c.names_at-ns.ensures
             (w.ensures.behind ∙ ap names (part-line text l));
         few = omega (arith, few.1, k.ensures);
         place = lo.inside;

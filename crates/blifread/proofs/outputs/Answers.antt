@@ -5,7 +5,7 @@ use lib.ListN.{length}
 use borrow.Author.Rules.{rules}
 use Rattle.network.specs.Bounds.{most_signals}
 use Rattle.network.proofs.TestLaws.{handed-on}
-use Rattle.blifread.proofs.Phases.{outputs-refused, outputs-named, outputs-done, started-fits}
+use Rattle.blifread.proofs.Phases.{outputs-refused, outputs-inside, outputs-done, started-fits}
 use Rattle.blifread.proofs.outputs.Goals as goal
 
 pub returns-in_err-x : goal.returns-in_err-x
@@ -23,12 +23,7 @@ overflow_cast-p c = omega (arith, (c.names_line.ensures.given _ c.in_ok-x.was).f
 
 pub slice_bounds-blocks-end : goal.slice_bounds-blocks-end
 slice_bounds-blocks-end c =
-    let s : length c.in_ok-x.x.names.starts ≡ most_signals = search rules in
-    omega (arith, (c.names_line.ensures.given _ c.in_ok-x.was).few)
-
-pub slice_bounds-blocks-end-2 : goal.slice_bounds-blocks-end-2
-slice_bounds-blocks-end-2 c =
-    let e : length c.in_ok-x.x.names.ends ≡ most_signals = search rules in
+    let s : length c.in_ok-x.x.names ≡ most_signals = search rules in
     omega (arith, (c.names_line.ensures.given _ c.in_ok-x.was).few)
 
 pub blocks-requires : goal.blocks-requires
@@ -36,8 +31,7 @@ blocks-requires c =
     let a = c.args in
     let g = c.names_line.ensures.given _ c.in_ok-x.was in
     let few = g.few in
-    let s : length c.in_ok-x.x.names.starts ≡ most_signals = search rules in
-    let e : length c.in_ok-x.x.names.ends ≡ most_signals = search rules in
-    let o = outputs-named a.text.now a.at c.names_line.result c.names_line.ensures _ c.in_ok-x.was (omega arith) (omega arith) in
+    let s : length c.in_ok-x.x.names ≡ most_signals = search rules in
+    let o = outputs-inside a.text.now a.at c.names_line.result c.names_line.ensures _ c.in_ok-x.was (omega arith) in
     let f = started-fits a.text.now c.started-t.result a.ins a.n c.in_ok-x.x.count c.started-t.ensures c.requires.1 c.requires.2 in
     (g.place, f.0, f.1, o.0, o.1)

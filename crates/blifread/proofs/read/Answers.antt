@@ -4,7 +4,7 @@ use lib.ListN.{drop}
 use Rattle.network.proofs.TestLaws.{handed-on}
 use Rattle.blif.specs.Text.{statements}
 use Rattle.blif.specs.Read.{model_test}
-use Rattle.bliftext.specs.Class.{words_at}
+use Rattle.bliftext.specs.Lines.{words_at}
 use Rattle.blifread.proofs.Steps.{part-line}
 use Rattle.blifread.proofs.Phases.{read-stop, read-refused, read_done}
 use Rattle.blifread.proofs.read.Goals as goal

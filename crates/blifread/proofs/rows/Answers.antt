@@ -1,6 +1,6 @@
 -- `blifread::rows` meets its contract. Assumes nothing.
 use native.Mathlib.Omega.{arith}
-use Rattle.bliftext.specs.Class.{words_at}
+use Rattle.bliftext.specs.Lines.{words_at}
 use Rattle.blifline.specs.Rows.{RowRead}
 use Rattle.blifread.proofs.Steps.{part-line}
 use Rattle.blifread.proofs.Rowwise.{rows_start, rows_on}

@@ -6,4 +6,4 @@ use Rattle.bliftext.specs.Named.{names_at}
 use Rattle.bliftext.proofs.place_of.Given as goal
 
 abbrev pub invariant-loop-i : goal.invariant-loop-i
-invariant-loop-i l = l.i + place_in (drop l.i (names_at l.text l.starts l.ends)) l.w ≡ place_in (names_at l.text l.starts l.ends) l.w
+invariant-loop-i l = l.i + place_in (drop l.i (names_at l.text l.names)) l.w ≡ place_in (names_at l.text l.names) l.w

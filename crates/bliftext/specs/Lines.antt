@@ -1,17 +1,20 @@
--- Classes of bytes, and words by places. Assumes nothing.
-use Rattle.std.specs.Prelude.{◌≡◌, Bool, not, ◌||◌, List, [], ◌∷◌, ℕ, ◌≤◌, ◌<◌, length, take, drop, Option, Some, None}
+-- Lines by their places in a text, and what a search looks for. Assumes nothing.
+use Rattle.std.specs.Prelude.{◌≡◌, Bool, not, ◌||◌, List, [], ◌∷◌, ℕ, ◌≤◌, ◌<◌, take, drop, length, Option, Some, None}
 use Rattle.text.specs.Words.{Text, is_printing}
-use Rattle.blif.specs.Text.{is_newline, is_hash, is_blank, fields, statements}
-use Rattle.bliftext.specs.declared.Class.{Class}
-use Rattle.bliftext.specs.declared.Class.TheVariants.{Newline, Hash, Blank, Filled, Foreign}
+use Rattle.blif.specs.Text.{is_blank, fields, statements}
 use Rattle.bliftext.specs.declared.Line.{Line}
 
-abbrev pub in_class : Class → ℕ → Bool
-in_class Newline b = is_newline b
-in_class Hash b = is_hash b
-in_class Blank b = is_blank b
-in_class Filled b = not (is_blank b)
-in_class Foreign b = not (is_printing b || is_blank b)
+-- what is no blank
+abbrev pub is_filled : ℕ → Bool
+is_filled b = not (is_blank b)
+
+-- what stands in no line of the subset
+abbrev pub is_foreign : ℕ → Bool
+is_foreign b = not (is_printing b || is_blank b)
+
+-- what a function may answer at a byte is the test's answer
+abbrev pub Computes : (ℕ → Bool → Type 0) → (ℕ → Bool) → Type 0
+Computes answers cut = (b : ℕ) → b < 256 → (r : Bool) → answers b r → r ≡ cut b
 
 -- the words of a line that has been found
 abbrev pub words_at : Text → Line → List Text
