@@ -16,7 +16,7 @@ use Rattle.network.specs.DontCares.{cdc, full}
 use Rattle.network.specs.Compatible.{compatible_count, open_table}
 use Rattle.network.specs.Flat.{loaded_net}
 use Rattle.network.specs.Refusals.{number_of}
-use Rattle.network.specs.Load.{session_of, load_of}
+use Rattle.network.specs.Load.{load_of}
 use Rattle.network.specs.Calls.{Filled}
 use Rattle.network.proofs.Valid.{net-ok}
 use Rattle.network.proofs.Exchanges.{loaded-length}

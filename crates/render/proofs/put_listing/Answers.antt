@@ -1,6 +1,5 @@
 -- `put_listing`: the line of a refusal, or the text of the loaded network. Assumes nothing.
 use mathlib.Core.Path.{sym, ap, ◌∙◌}
-use Rattle.std.specs.Prelude.{Ok, Err}
 use Rattle.render.specs.Listing.{refused_line}
 use Rattle.render.proofs.Shown.{fresh, listing-loaded, listing-refused, counted-load, counted-refused}
 use Rattle.render.proofs.put_listing.Goals as goal
