@@ -19,7 +19,7 @@ fn first_closed(k: u8, loaded: u64, table: u64, opens: u64) -> Result<(), Refusa
     requires { k ≤ most_fanins }
     ensures { result ≡ entry_found (smallest (2 ^ k) (λ t. not (bit opens t) && differs (bit loaded t) (bit table t))) }
 {
-    let entries = entries::entry_count(network::place(k));
+    let entries = entries::entry_count(usize::from(k));
     let altered = (loaded ^ table) & (bits::complement(opens) & bits::mask(entries));
     if altered == 0 {
         return Ok(());
@@ -33,8 +33,8 @@ fn gate_test(s: Session, gate: usize) -> Result<(), Refusal>
     requires { state_fault s ≡ Done }
     ensures { result ≡ first (state_test s ∷ gate_test (loaded_net s) gate ∷ []) }
 {
-    let n = s.n as usize;
-    let m = s.m as usize;
+    let n = usize::from(s.n);
+    let m = usize::from(s.m);
     if replacements::is_gate(n, m, gate) {
         return Ok(());
     }
@@ -46,8 +46,8 @@ fn replacement_test(s: Session, gate: usize, table: u64) -> Result<(), Refusal>
     requires { state_fault s ≡ Done }
     ensures { result ≡ first (state_test s ∷ gate_test (loaded_net s) gate ∷ table_test (loaded_net s) (record { signal = gate; table = table }) ∷ []) }
 {
-    let n = network::place(s.n);
-    let m = network::place(s.m);
+    let n = usize::from(s.n);
+    let m = usize::from(s.m);
     let arity = s.arity;
     replacements::pair_test(n, m, &arity, 0, gate, table)
 }
@@ -58,7 +58,7 @@ pub fn exchange(s: Session, gate: usize, table: u64) -> Result<(), Refusal>
     ensures { result ≡ exchange_answer s (record { signal = gate; table = table }) }
 {
     replacement_test(s, gate, table)?;
-    let n = s.n as usize;
+    let n = usize::from(s.n);
     let g = gate - n;
     let k = s.arity[g];
     let loaded = s.loaded[g];
@@ -74,8 +74,8 @@ pub fn verdict(s: Session, gates: &[u64], tables: &[u64]) -> Result<(), Refusal>
     if gates.len() != tables.len() {
         return Err(Refusal::ListsUnequal);
     }
-    let n = network::place(s.n);
-    let m = network::place(s.m);
+    let n = usize::from(s.n);
+    let m = usize::from(s.m);
     let arity = s.arity;
     replacements::pairs_test(n, m, &arity, gates, tables).map_err(|e| e.refusal)?;
     let current = s.current;
@@ -89,8 +89,8 @@ pub fn refused_at(s: Session, gates: &[u64], tables: &[u64]) -> usize
     requires gates_len { length gates.now ≡ length tables.now }
     ensures { result ≡ refused_at (loaded_net s) [] (pairs gates.now tables.now) }
 {
-    let n = network::place(s.n);
-    let m = network::place(s.m);
+    let n = usize::from(s.n);
+    let m = usize::from(s.m);
     let arity = s.arity;
     match replacements::pairs_test(n, m, &arity, gates, tables) {
         Ok(()) => gates.len(),
@@ -104,7 +104,7 @@ pub fn tables(s: Session, gate: usize) -> Result<Tables, Refusal>
     ensures { result ≡ tables_of s gate }
 {
     gate_test(s, gate)?;
-    let n = s.n as usize;
+    let n = usize::from(s.n);
     let g = gate - n;
     let t = dontcares::gate_tables(s, g);
     let d = dontcares::sdc(s, g);

@@ -26,9 +26,9 @@ pub fn loaded_rows(
     requires { (state_fault s ≡ Done) × (length rows.old ≡ signal_words) }
     ensures { LoadedRows s rows.new hs.new result.count result.live }
 {
-    let n = network::place(s.n);
-    let m = network::place(s.m);
-    let p = network::place(s.p);
+    let n = usize::from(s.n);
+    let m = usize::from(s.m);
+    let p = usize::from(s.p);
     let arity = s.arity;
     let fanins = s.fanins;
     let loaded = s.loaded;
@@ -67,8 +67,8 @@ pub fn sets_from(s: Session, hs: &[u64; SIGNAL_WORDS], live: u64, count: usize) 
     requires loaded_sets { LoadedSets s hs.now count live }
     ensures { SetWords s result }
 {
-    let n = network::place(s.n);
-    let m = network::place(s.m);
+    let n = usize::from(s.n);
+    let m = usize::from(s.m);
     let mut sets = [0u64; GATE_WORDS];
     for w in 0..count {
         store_word(n, m, hs, live, w, &mut sets);
@@ -95,8 +95,8 @@ pub fn counts_of(s: Session, sets: &[u64; GATE_WORDS]) -> [u16; MOST_GATES]
     requires set_words { SetWords s sets.now }
     ensures { result ≡ per_gate s.m (λ g. compatible_count (loaded_net s) (s.n + g)) }
 {
-    let m = network::place(s.m);
-    let f = bits::frame_of(network::place(s.n));
+    let m = usize::from(s.m);
+    let f = bits::frame_of(usize::from(s.n));
     let most = f.count;
     let mut counts = [0u16; MOST_GATES];
     for g in 0..m {

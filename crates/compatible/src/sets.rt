@@ -56,7 +56,7 @@ fn at_outputs(
     let none = [0u64; ROW_WORDS];
     *hs = [0xffff_ffff_ffff_ffffu64; SIGNAL_WORDS];
     for i in 0..p {
-        let s = network::place(outs[i]);
+        let s = usize::from(outs[i]);
         intersect(hs, s, excluded, &none, count);
     }
 }
@@ -77,7 +77,7 @@ fn through_gate(
     requires hs_len { length hs.old ≡ signal_words }
     ensures { (length hs.new ≡ signal_words) × Passed arity.now fanins.now edges.now rows.now own.now hs.old hs.new count g }
 {
-    let k = network::place(arity[g]);
+    let k = usize::from(arity[g]);
     let mut free = [0u64; ROW_WORDS];
     for r in 0..k {
         simulate::lut_row(

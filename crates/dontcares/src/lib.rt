@@ -75,7 +75,7 @@ fn delivered(
     requires gate_ok { GateOk arity.now fanins.now g most_signals }
     ensures { (ts : List ℕ) → result ≡ table_of (2 ^ get_or arity.now g 0) (λ t. any count (λ w. any 64 (λ b. bit (get_or keep.now w 0) b && eqb (entry (column (words_at rows.now w) b) (gate_at arity.now fanins.now ts g)) t))) }
 {
-    let k = network::place(arity[g]);
+    let k = usize::from(arity[g]);
     let all = bits::mask(entries::entry_count(k));
     let mut acc: u64 = 0;
     for w in 0..count {
@@ -112,7 +112,7 @@ fn tables_at(
     let came = delivered(arity, fanins, rows, come, count, g);
     let keep = keep_row(come, odc, count, g);
     let seen = delivered(arity, fanins, rows, &keep, count, g);
-    let c = entries::entry_count(network::place(arity[g]));
+    let c = entries::entry_count(usize::from(arity[g]));
     let cdc = bits::complement_within(c, came);
     let full = bits::complement_within(c, seen);
     GateTables {
@@ -164,9 +164,9 @@ fn sets_between(s: Session, a: usize, t: usize, e: usize, odc: &mut [u64; GATE_W
     requires a_le_t { (a ≤ t) × (t ≤ e) × (e ≤ s.m) × (length odc.old ≡ gate_words) }
     ensures { ((g : ℕ) → a ≤ g → g < e → OdcAt (current_net s) odc.new s.n g (word_count s.n)) × Tabled (current_net s) result.cdc result.full s.n a t }
 {
-    let n = network::place(s.n);
-    let m = network::place(s.m);
-    let p = network::place(s.p);
+    let n = usize::from(s.n);
+    let m = usize::from(s.m);
+    let p = usize::from(s.p);
     let arity = s.arity;
     let fanins = s.fanins;
     let tables = s.current;
@@ -188,7 +188,7 @@ pub fn odc_sets(s: Session) -> [u64; GATE_WORDS]
     requires { state_fault s ≡ Done }
     ensures { (g w : ℕ) → g < s.m → w < word_count s.n → get_or result (row_words * g + w) 0 ≡ word_of s.n (odc (current_net s) (s.n + g)) w }
 {
-    let m = network::place(s.m);
+    let m = usize::from(s.m);
     let mut l = [0u64; GATE_WORDS];
     sets_between(s, 0, 0, m, &mut l);
     l
@@ -199,7 +199,7 @@ pub fn all_tables(s: Session) -> AllTables
     requires { state_fault s ≡ Done }
     ensures { Tabled (current_net s) result.cdc result.full s.n 0 s.m }
 {
-    let m = network::place(s.m);
+    let m = usize::from(s.m);
     let mut l = [0u64; GATE_WORDS];
     sets_between(s, 0, m, m, &mut l)
 }
@@ -248,6 +248,6 @@ pub fn sdc(s: Session, g: usize) -> Sdc
 {
     let arity = s.arity;
     let tables = s.current;
-    let k = network::place(arity[g]);
+    let k = usize::from(arity[g]);
     sdc_of(k, tables[g])
 }

@@ -93,7 +93,7 @@ fn small_edges(
 {
     let mut edges = [0u64; FANIN_PLACES];
     for g in 0..m {
-        let k = network::place(arity[g]);
+        let k = usize::from(arity[g]);
         gate_edges::<SMALL_FANINS>(k, tables[g], GATE_PLACES * g, &mut edges);
     }
     edges
@@ -111,7 +111,7 @@ pub fn edge_tables(
 {
     let mut edges = small_edges(m, arity, tables);
     for g in 0..m {
-        let k = network::place(arity[g]);
+        let k = usize::from(arity[g]);
         if SMALL_FANINS < k {
             gate_edges::<MOST_FANINS>(k, tables[g], GATE_PLACES * g, &mut edges);
         }

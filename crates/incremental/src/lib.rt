@@ -21,7 +21,7 @@ fn fanin_mask(arity: &[u8; MOST_GATES], fanins: &[u8; FANIN_PLACES], g: usize) -
     requires gate_ok { GateOk arity.now fanins.now g most_signals }
     ensures { (r : ℕ) → r < get_or arity.now g 0 → bit result (get_or fanins.now (gate_places * g + r) 0) ≡ true }
 {
-    let k = network::place(arity[g]);
+    let k = usize::from(arity[g]);
     let mut mask: u64 = 0;
     for r in 0..k {
         let f = simulate::fanin(fanins, g, r);

@@ -48,7 +48,7 @@ fn observed(
 {
     let mut l = [0u64; ROW_WORDS];
     for i in 0..p {
-        let s = network::place(outputs[i]);
+        let s = usize::from(outputs[i]);
         differing(&mut l, rows, other, s, count);
     }
     l

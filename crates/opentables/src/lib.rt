@@ -36,7 +36,7 @@ fn closed_in(
     let ins = simulate::gather_at(arity, fanins, rows, g, w);
     let moved = simulate::gather_at(arity, fanins, hs, g, w);
     let keep = live & bits::complement(hs[ROW_WORDS * (n + g) + w]);
-    entries::reach(network::place(arity[g]), &ins, &moved, keep, found)
+    entries::reach(usize::from(arity[g]), &ins, &moved, keep, found)
 }
 
 // Rule 7 in the first count words. Once all entries are delivered, the words left add none.
@@ -54,7 +54,7 @@ fn closed_by(
     requires gate_ok { GateOk arity.now fanins.now g most_signals }
     ensures { result ≡ closed_by arity.now fanins.now rows.now hs.now n live count g }
 {
-    let all = bits::mask(entries::entry_count(network::place(arity[g])));
+    let all = bits::mask(entries::entry_count(usize::from(arity[g])));
     let mut acc: u64 = 0;
     for w in 0..count {
         if acc == all {
@@ -77,13 +77,13 @@ fn open_from(
     requires loaded_rows { LoadedRows s rows.now hs.now count live }
     ensures { result ≡ open_tables (loaded_net s) }
 {
-    let n = network::place(s.n);
-    let m = network::place(s.m);
+    let n = usize::from(s.n);
+    let m = usize::from(s.m);
     let arity = s.arity;
     let fanins = s.fanins;
     let mut opens = [0u64; MOST_GATES];
     for g in 0..m {
-        let c = entries::entry_count(network::place(arity[g]));
+        let c = entries::entry_count(usize::from(arity[g]));
         let v = bits::complement_within(c, closed_by(n, &arity, &fanins, rows, hs, live, count, g));
         opens[g] = v;
     }

@@ -55,7 +55,7 @@ fn words_per_set(s: Session) -> usize
     requires { state_fault s ≡ Done }
     ensures { (result ≡ word_count s.n) × (result ≤ row_words) }
 {
-    let f = bits::frame_of(network::place(s.n));
+    let f = bits::frame_of(usize::from(s.n));
     f.count
 }
 
@@ -65,7 +65,7 @@ pub fn words_needed(s: Session) -> usize
     ensures { result ≡ length (set_words s s.m) }
 {
     let w = words_per_set(s);
-    network::place(s.m) * (w + w)
+    usize::from(s.m) * (w + w)
 }
 
 // The ODC and H of all gates, gate after gate, from the start of the buffer; the words after the last stay.
@@ -76,5 +76,5 @@ pub fn fill(s: Session, buf: &mut [u64])
 {
     let odcs = dontcares::odc_sets(s);
     let sets = compatible::compatible_sets(s);
-    fill_gates(buf, &odcs, &sets, network::place(s.m), words_per_set(s));
+    fill_gates(buf, &odcs, &sets, usize::from(s.m), words_per_set(s));
 }

@@ -44,7 +44,7 @@ fn put_row(buf: &mut [u8], at: usize, t: Columns, g: usize) -> usize
     let cdc = t.cdc[g];
     let full = t.full[g];
     let opens = t.opens[g];
-    let hidden = t.hidden[g] as u64;
+    let hidden = u64::from(t.hidden[g]);
     let digits = t.digits;
     let a = text::put_number(buf, at, signal, b' ');
     let b = text::put_field(buf, a, cdc, digits);
@@ -69,7 +69,7 @@ fn put_rows(buf: &mut [u8], at: usize, t: Columns) -> usize
 fn entries_in(x: u64) -> u64
     ensures { (result ≡ entries_in x) × (result ≤ most_entries) }
 {
-    bits::ones(x) as u64
+    u64::from(bits::ones(x))
 }
 
 // The set entries of the first m tables.
@@ -127,8 +127,8 @@ fn columns_of(s: Session, hidden: [u16; MOST_GATES]) -> Columns
     let opens = s.open_tables;
     let digits = tabletext::digits_of(s);
     Columns {
-        n: s.n as u64,
-        m: network::place(s.m),
+        n: u64::from(s.n),
+        m: usize::from(s.m),
         digits: digits,
         cdc: cdc,
         full: full,

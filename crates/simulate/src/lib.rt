@@ -39,7 +39,7 @@ pub fn fanin(fanins: &[u8; FANIN_PLACES], g: usize, r: usize) -> usize
     requires { (g < most_gates) × (r < gate_places) }
     ensures { result ≡ get_or fanins.now (gate_places * g + r) 0 }
 {
-    network::place(fanins[GATE_PLACES * g + r])
+    usize::from(fanins[GATE_PLACES * g + r])
 }
 
 // The rows of all functions of the signals a and b, into lent rows.
@@ -121,7 +121,7 @@ pub fn lut_row(
     requires gate_ok { GateOk arity.now fanins.now g most_signals }
     ensures { (length out.new ≡ row_words) × ((ts : List ℕ) (w b : ℕ) → w < count → b < 64 → bit (get_or out.new w 0) b ≡ bit t (entry (column (words_at rows.now w) b) (gate_at arity.now fanins.now ts g))) }
 {
-    let k = network::place(arity[g]);
+    let k = usize::from(arity[g]);
     let a = fanin(fanins, g, 0);
     if k == 1 {
         return fill_row(count, out, move |w| bits::lut1(t, word_of(rows, a, w)));
@@ -172,7 +172,7 @@ pub fn gather_at(
     requires gate_ok { GateOk arity.now fanins.now g most_signals }
     ensures { (r : ℕ) → r < get_or arity.now g 0 → get_or result r 0 ≡ get_or (words_at rows.now w) (get_or fanins.now (gate_places * g + r) 0) 0 }
 {
-    let k = network::place(arity[g]);
+    let k = usize::from(arity[g]);
     let mut ins = [0u64; GATE_PLACES];
     for r in 0..k {
         let f = fanin(fanins, g, r);

@@ -18,7 +18,7 @@ pub fn digits_of(s: Session) -> usize
     requires { s.m ≤ most_gates }
     ensures { result ≡ digits (loaded_net s) }
 {
-    let m = network::place(s.m);
+    let m = usize::from(s.m);
     let arity = s.arity;
     if arity[..m].iter().any(|k| NARROW_FANINS < *k) {
         return text::WORD_DIGITS;

@@ -30,7 +30,7 @@ fn changed(
     requires { (w < row_words) × (i < most_outputs) × (get_or outs.now i 0 < most_signals) }
     ensures { result ≡ changed_word outs.now (words_at xs.now w) (words_at ys.now w) i }
 {
-    let s = network::place(outs[i]);
+    let s = usize::from(outs[i]);
     let at = ROW_WORDS * s + w;
     xs[at] ^ ys[at]
 }
@@ -159,9 +159,9 @@ pub fn harm(s: Session, tables: [u64; MOST_GATES]) -> Result<(), Refusal>
     requires { state_fault s ≡ Done }
     ensures { result ≡ harm_test (loaded_net s) (net_with s tables) }
 {
-    let n = network::place(s.n);
-    let m = network::place(s.m);
-    let p = network::place(s.p);
+    let n = usize::from(s.n);
+    let m = usize::from(s.m);
+    let p = usize::from(s.p);
     let excluded = s.excluded;
     let arity = s.arity;
     let fanins = s.fanins;

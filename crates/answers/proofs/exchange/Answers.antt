@@ -45,7 +45,7 @@ pub bounds-s-g-3 : goal.bounds-s-g-3
 bounds-s-g-3 c = let v = gate-named c.args.s c.args.gate c.args.table c.replacement_test.ensures c.in_ok-replacement_test.was in omega (arith, v.low, v.high, v.most, v.few)
 
 pub first_closed-requires : goal.first_closed-requires
-first_closed-requires c = let v = gate-named c.args.s c.args.gate c.args.table c.replacement_test.ensures c.in_ok-replacement_test.was in omega (arith, v.low, v.high, v.most, v.few)
+first_closed-requires c = let v = gate-named c.args.s c.args.gate c.args.table c.replacement_test.ensures c.in_ok-replacement_test.was in rw c.from-n.ensures v.few
 
 pub returns : goal.returns
 unfolding exchange_answer
@@ -53,5 +53,5 @@ returns c =
     let s = c.args.s in
     let r : Replacement = record { signal = c.args.gate; table = c.args.table } in
     let v = gate-named s r.signal r.table c.replacement_test.ensures c.in_ok-replacement_test.was in
-    c.first_closed.ensures ∙ closed_is s r v.low v.high ∙ alone (closed_test (loaded_net s) (held_closed s r.signal) r)
+    rw c.from-n.ensures at c.first_closed.ensures ∙ closed_is s r v.low v.high ∙ alone (closed_test (loaded_net s) (held_closed s r.signal) r)
     ∙ went_on (state_test s ∷ gate_test (loaded_net s) r.signal ∷ table_test (loaded_net s) r ∷ []) (closed_test (loaded_net s) (held_closed s r.signal) r ∷ []) c.replacement_test.ensures c.in_ok-replacement_test.was

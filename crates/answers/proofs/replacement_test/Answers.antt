@@ -7,9 +7,9 @@ use Rattle.answers.proofs.replacement_test.Goals as goal
 
 pub pair_test-requires : goal.pair_test-requires
 pair_test-requires c =
-    bounded c.args.s _ _ c.place-n.ensures c.place-m.ensures c.requires
+    bounded c.args.s _ _ c.from-n.ensures c.from-m.ensures c.requires
 
 pub returns : goal.returns
 returns c =
     let r : Replacement = record { signal = c.args.gate; table = c.args.table } in
-    c.pair_test.ensures ∙ first-pair c.args.s r _ _ c.place-n.ensures c.place-m.ensures c.requires
+    c.pair_test.ensures ∙ first-pair c.args.s r _ _ c.from-n.ensures c.from-m.ensures c.requires

@@ -36,5 +36,5 @@ pub returns : goal.returns
 returns c =
     let s = c.args.s in
     let v = named s c.args.gate [] (sym c.gate_test.ensures ∙ c.in_ok-gate_test.was) in
-    tables-done s c.args.gate (sym c.gate_test.ensures ∙ c.in_ok-gate_test.was) v.low
-    c.sdc-d.ensures c.gate_tables-t.ensures.0 c.gate_tables-t.ensures.1
+    rw c.from-n.ensures (tables-done s c.args.gate (sym c.gate_test.ensures ∙ c.in_ok-gate_test.was) v.low
+    (rw c.from-n.ensures at c.sdc-d.ensures) (rw c.from-n.ensures at c.gate_tables-t.ensures.0) (rw c.from-n.ensures at c.gate_tables-t.ensures.1))

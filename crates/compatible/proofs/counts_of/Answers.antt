@@ -14,12 +14,12 @@ use Rattle.compatible.proofs.counts_of.Goals as goal
 use Rattle.compatible.proofs.counts_of.Goals.{After-frame_of-f}
 
 -- there are not too many gates
-few : (c : After-frame_of-f) → c.place-m.result ≤ most_gates
+few : (c : After-frame_of-f) → c.from-m.result ≤ most_gates
 few c =
-    omega (arith, c.place-m.ensures, (net-ok c.args.s c.requires.s_value).most)
+    omega (arith, (net-ok c.args.s c.requires.s_value).most)
 
 pub frame_of-f-requires : goal.frame_of-f-requires
-frame_of-f-requires c = omega (arith, c.place.ensures, (net-ok c.args.s c.requires.s_value).ins)
+frame_of-f-requires c = omega (arith, (net-ok c.args.s c.requires.s_value).ins)
 
 pub ones_in-c-requires : goal.ones_in-c-requires
 ones_in-c-requires c = (omega (arith, few (goal.at.ones_in-c-requires c).After-frame_of-f), c.frame_of-f.ensures.cut.words)
@@ -39,6 +39,6 @@ pub returns : goal.returns
 returns c =
     let l = c.loop-g in
     let q : ℕ → ℕ = λ q. ones_in c.args.sets.now (row_words * q) c.frame_of-f.result.count in
-    let e : l.g ≡ c.place-m.result = omega arith in
-    per-gate l.counts q c.place-m.result l.invariant.0 (subst (λ (k : ℕ). Changed (λ i v. q i) (replicate most_gates 0) l.counts k) e l.invariant.1)
-    ∙ counts-are c.args.s _ _ c.place.ensures c.place-m.ensures c.args.sets.now c.frame_of-f.ensures c.requires.set_words
+    let e : l.g ≡ c.from-m.result = omega arith in
+    per-gate l.counts q c.from-m.result l.invariant.0 (subst (λ (k : ℕ). Changed (λ i v. q i) (replicate most_gates 0) l.counts k) e l.invariant.1)
+    ∙ counts-are c.args.s _ _ c.from.ensures c.from-m.ensures c.args.sets.now c.frame_of-f.ensures c.requires.set_words

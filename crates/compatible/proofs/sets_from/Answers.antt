@@ -7,8 +7,8 @@ use Rattle.compatible.proofs.sets_from.Goals as goal
 pub store_word-requires : goal.store_word-requires
 store_word-requires c =
     let ok = net-ok c.args.s c.requires.s_value in
-    record { n_le_most_inputs = (omega (arith, c.place-n.ensures, ok.ins), omega (arith, c.place-m.ensures, ok.most), omega (arith, c.requires.loaded_sets.frame.cut.words)); sets_len = c.loop-w.invariant.0 }
+    record { n_le_most_inputs = (omega (arith, ok.ins), omega (arith, ok.most), omega (arith, c.requires.loaded_sets.frame.cut.words)); sets_len = c.loop-w.invariant.0 }
 
 pub returns : goal.returns
 returns c =
-    sets-are c.args.s _ _ c.place-n.ensures c.place-m.ensures c.requires.s_value c.requires.loaded_sets c.loop-w.sets (λ g w hg hw. c.loop-w.invariant.1 g w hg (omega arith))
+    sets-are c.args.s _ _ c.from-n.ensures c.from-m.ensures c.requires.s_value c.requires.loaded_sets c.loop-w.sets (λ g w hg hw. c.loop-w.invariant.1 g w hg (omega arith))

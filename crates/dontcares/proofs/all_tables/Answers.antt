@@ -2,4 +2,4 @@
 use Rattle.dontcares.proofs.all_tables.Goals as goal
 
 pub returns : goal.returns
-returns c = rw c.place-m.ensures at c.sets_between.ensures.1
+returns c = rw c.from-m.ensures at c.sets_between.ensures.1

@@ -18,18 +18,18 @@ pub returns-then-acc-all : goal.returns-then-acc-all
 returns-then-acc-all c ts =
     let a = c.args in
     all_there (2 ^ get_or a.arity.now a.g 0) (delivers a.arity.now a.fanins.now ts a.rows.now a.keep.now a.g) c.loop-w.w a.count c.loop-w.acc (omega arith) (c.loop-w.invariant ts)
-    (c.if-acc-all.true ∙ c.mask-all.ensures.0 ∙ ap (λ (i : ℕ). 2 ^ i - 1) (c.entry_count.ensures.0 ∙ ap (λ (k : ℕ). 2 ^ k) c.place-k.ensures))
+    (c.if-acc-all.true ∙ c.mask-all.ensures.0 ∙ ap (λ (i : ℕ). 2 ^ i - 1) (c.entry_count.ensures.0 ∙ ap (λ (k : ℕ). 2 ^ k) c.from-k.ensures))
 
 pub meets-acc-requires : goal.meets-acc-requires
 meets-acc-requires c =
     let a = c.args in
-    (omega (arith, c.place-k.ensures, c.requires.gate_ok.some), omega (arith, c.place-k.ensures, c.requires.gate_ok.few), below (2 ^ get_or a.arity.now a.g 0) (2 ^ c.place-k.result) c.loop-w.acc (λ t. any c.loop-w.w (delivers a.arity.now a.fanins.now [] a.rows.now a.keep.now a.g t)) (ap (λ (k : ℕ). 2 ^ k) c.place-k.ensures) (c.loop-w.invariant []))
+    (omega (arith, c.requires.gate_ok.some), omega (arith, c.requires.gate_ok.few), below (2 ^ get_or a.arity.now a.g 0) (2 ^ c.from-k.result) c.loop-w.acc (λ t. any c.loop-w.w (delivers a.arity.now a.fanins.now [] a.rows.now a.keep.now a.g t)) (ap (λ (k : ℕ). 2 ^ k) c.from-k.ensures) (c.loop-w.invariant []))
 
 pub loop-w-preserved : goal.loop-w-preserved
 loop-w-preserved c =
     let a = c.args in
     λ ts. word_more (delivers a.arity.now a.fanins.now ts a.rows.now a.keep.now a.g) (2 ^ get_or a.arity.now a.g 0) c.loop-w.w c.loop-w.acc _ c.meets-acc.result (c.loop-w.invariant ts)
-    (word-delivers a.arity.now a.fanins.now ts a.rows.now a.keep.now c.gather_at-ins.result a.g c.place-k.result c.loop-w.w c.place-k.ensures c.gather_at-ins.ensures) c.meets-acc.ensures
+    (word-delivers a.arity.now a.fanins.now ts a.rows.now a.keep.now c.gather_at-ins.result a.g c.from-k.result c.loop-w.w c.from-k.ensures c.gather_at-ins.ensures) c.meets-acc.ensures
 
 pub returns : goal.returns
 returns c ts =

@@ -6,4 +6,4 @@ use Rattle.dontcares.proofs.odc_sets.Goals as goal
 pub returns : goal.returns
 unfolding OdcAt
 returns c g w h l =
-    c.sets_between.ensures.0 g (omega arith) (omega (arith, c.place-m.ensures)) w l
+    c.sets_between.ensures.0 g (omega arith) (omega arith) w l

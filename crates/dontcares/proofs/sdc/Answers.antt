@@ -22,8 +22,8 @@ bounds-tables-g c =
 pub sdc_of-requires : goal.sdc_of-requires
 sdc_of-requires c =
     let a = c.args in (
-      omega (arith, c.place-k.ensures, ((net-ok a.s c.requires.s_value).gate a.g c.requires.g_lt_m).few),
-      subst (λ (k : ℕ). get_or a.s.current a.g 0 < 2 ^ 2 ^ k) (sym c.place-k.ensures) (width-e _ _ ((valid-e a.s c.requires.s_value).gate a.g c.requires.g_lt_m).current-fine),
+      omega (arith, ((net-ok a.s c.requires.s_value).gate a.g c.requires.g_lt_m).few),
+      subst (λ (k : ℕ). get_or a.s.current a.g 0 < 2 ^ 2 ^ k) (sym c.from-k.ensures) (width-e _ _ ((valid-e a.s c.requires.s_value).gate a.g c.requires.g_lt_m).current-fine),
     )
 
 pub returns : goal.returns
@@ -31,4 +31,4 @@ unfolding current_net
 returns c =
     let a = c.args in
     c.sdc_of.ensures ∙ ap sdc_words
-    (sdc-is a.s.arity a.s.fanins a.s.current a.s.excluded a.s.outputs a.s.n a.s.m a.s.p a.g c.place-k.result (sdc_table c.place-k.result (get_or a.s.current a.g 0)) c.requires.g_lt_m c.place-k.ensures refl)
+    (sdc-is a.s.arity a.s.fanins a.s.current a.s.excluded a.s.outputs a.s.n a.s.m a.s.p a.g c.from-k.result (sdc_table c.from-k.result (get_or a.s.current a.g 0)) c.requires.g_lt_m c.from-k.ensures refl)

@@ -12,7 +12,7 @@ use Rattle.dontcares.proofs.tables_at.Goals.{After-entry_count-c}
 
 size : (c : After-entry_count-c) → let a = c.args in
     c.entry_count-c.result ≡ 2 ^ get_or a.arity.now a.g 0
-size c = c.entry_count-c.ensures.0 ∙ ap (λ (k : ℕ). 2 ^ k) c.place.ensures
+size c = c.entry_count-c.ensures.0 ∙ ap (λ (k : ℕ). 2 ^ k) c.from.ensures
 
 pub complement_within-cdc-requires : goal.complement_within-cdc-requires
 complement_within-cdc-requires c =

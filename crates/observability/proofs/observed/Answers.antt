@@ -17,5 +17,5 @@ pub loop-i-preserved : goal.loop-i-preserved
 loop-i-preserved c =
     let a = c.args in (
       c.differing.ensures.0,
-      λ w b hw hb. observed-step a.outputs.now a.rows.now a.other.now w b (get_or c.loop-i.l w 0) _ c.loop-i.i c.place-s.result c.place-s.ensures (c.differing.ensures.1 w hw) (c.loop-i.invariant.1 w b hw hb),
+      λ w b hw hb. observed-step a.outputs.now a.rows.now a.other.now w b (get_or c.loop-i.l w 0) _ c.loop-i.i c.from-s.result c.from-s.ensures (c.differing.ensures.1 w hw) (c.loop-i.invariant.1 w b hw hb),
     )

@@ -12,7 +12,7 @@ pub returns-then-acc-all : goal.returns-then-acc-all
 returns-then-acc-all c =
     let a = c.args in
     closed_all a.arity.now a.fanins.now a.rows.now a.hs.now a.n a.live a.g c.loop-w.w a.count c.loop-w.acc (omega arith) c.loop-w.invariant
-    (c.if-acc-all.true ∙ c.mask-all.ensures.0 ∙ ap (λ (i : ℕ). 2 ^ i - 1) (c.entry_count.ensures.0 ∙ ap (λ (k : ℕ). 2 ^ k) c.place.ensures))
+    (c.if-acc-all.true ∙ c.mask-all.ensures.0 ∙ ap (λ (i : ℕ). 2 ^ i - 1) (c.entry_count.ensures.0 ∙ ap (λ (k : ℕ). 2 ^ k) c.from.ensures))
 
 pub closed_in-acc-requires : goal.closed_in-acc-requires
 closed_in-acc-requires c =

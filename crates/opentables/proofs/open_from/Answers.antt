@@ -17,17 +17,17 @@ use Rattle.opentables.proofs.open_from.Goals as goal
 use Rattle.opentables.proofs.open_from.Goals.{In-loop-g}
 
 -- the network, by the counts that were read
-net : (c : In-loop-g) → NetOk c.args.s.arity c.args.s.fanins c.place-n.result c.place-m.result
-net c = (net-fine c.args.s _ _ _ c.place-n.ensures c.place-m.ensures refl c.requires.s_value).0
+net : (c : In-loop-g) → NetOk c.args.s.arity c.args.s.fanins c.from-n.result c.from-m.result
+net c = (net-fine c.args.s _ _ _ c.from-n.ensures c.from-m.ensures refl c.requires.s_value).0
 
 gate-ok : (c : In-loop-g) → GateOk c.args.s.arity c.args.s.fanins c.loop-g.g most_signals
 gate-ok c = later (omega (arith, (net c).ins, (net c).most)) ((net c).gate c.loop-g.g (omega arith))
 
 pub bounds-arity-g : goal.bounds-arity-g
-bounds-arity-g c = omega (arith, c.place-m.ensures, (net-ok c.args.s c.requires.s_value).most)
+bounds-arity-g c = omega (arith, (net-ok c.args.s c.requires.s_value).most)
 
 pub entry_count-c-requires : goal.entry_count-c-requires
-entry_count-c-requires c = omega (arith, c.place.ensures, (gate-ok (goal.at.entry_count-c-requires c).In-loop-g).few)
+entry_count-c-requires c = omega (arith, (gate-ok (goal.at.entry_count-c-requires c).In-loop-g).few)
 
 pub closed_by-requires : goal.closed_by-requires
 closed_by-requires c =
@@ -38,8 +38,8 @@ pub complement_within-v-requires : goal.complement_within-v-requires
 complement_within-v-requires c =
     let a = c.args in (
       omega (arith, c.entry_count-c.ensures.1),
-      subst (λ (k : ℕ). c.closed_by.result < 2 ^ k) (sym (c.entry_count-c.ensures.0 ∙ ap (λ (k : ℕ). 2 ^ k) c.place.ensures))
-          (closed-lt a.s.arity a.s.fanins a.rows.now a.hs.now c.place-n.result a.live c.loop-g.g a.count c.closed_by.result c.closed_by.ensures),
+      subst (λ (k : ℕ). c.closed_by.result < 2 ^ k) (sym (c.entry_count-c.ensures.0 ∙ ap (λ (k : ℕ). 2 ^ k) c.from.ensures))
+          (closed-lt a.s.arity a.s.fanins a.rows.now a.hs.now c.from-n.result a.live c.loop-g.g a.count c.closed_by.result c.closed_by.ensures),
     )
 
 pub bounds-opens-g : goal.bounds-opens-g
@@ -49,16 +49,16 @@ pub loop-g-preserved : goal.loop-g-preserved
 loop-g-preserved c =
     let a = c.args in (
       simp length-set c.loop-g.invariant.0,
-      changed-step (λ q v. open_by a.s.arity a.s.fanins a.rows.now a.hs.now c.place-n.result a.live a.count q) (replicate most_gates 0) c.loop-g.opens c.loop-g.g c.complement_within-v.result (omega (arith, (net (goal.at.loop-g-preserved c).In-loop-g).most)) c.loop-g.invariant.1
-          (c.complement_within-v.ensures ∙ ap (λ (k : ℕ). 2 ^ k - 1 - c.closed_by.result) (c.entry_count-c.ensures.0 ∙ ap (λ (k : ℕ). 2 ^ k) c.place.ensures)
-          ∙ open-by-is a.s.arity a.s.fanins a.rows.now a.hs.now c.place-n.result a.live c.loop-g.g a.count c.closed_by.result c.closed_by.ensures),
+      changed-step (λ q v. open_by a.s.arity a.s.fanins a.rows.now a.hs.now c.from-n.result a.live a.count q) (replicate most_gates 0) c.loop-g.opens c.loop-g.g c.complement_within-v.result (omega (arith, (net (goal.at.loop-g-preserved c).In-loop-g).most)) c.loop-g.invariant.1
+          (c.complement_within-v.ensures ∙ ap (λ (k : ℕ). 2 ^ k - 1 - c.closed_by.result) (c.entry_count-c.ensures.0 ∙ ap (λ (k : ℕ). 2 ^ k) c.from.ensures)
+          ∙ open-by-is a.s.arity a.s.fanins a.rows.now a.hs.now c.from-n.result a.live c.loop-g.g a.count c.closed_by.result c.closed_by.ensures),
     )
 
 pub returns : goal.returns
 returns c =
     let a = c.args in
     let l = c.loop-g in
-    let table = open_by a.s.arity a.s.fanins a.rows.now a.hs.now c.place-n.result a.live a.count in
-    let e : l.g ≡ c.place-m.result = omega arith in
-    per-gate l.opens table c.place-m.result l.invariant.0 (subst (λ (k : ℕ). Changed (λ q v. table q) (replicate most_gates 0) l.opens k) e l.invariant.1)
-    ∙ opens-are c.args.s _ _ c.place-n.ensures c.place-m.ensures c.requires.s_value c.requires.loaded_rows
+    let table = open_by a.s.arity a.s.fanins a.rows.now a.hs.now c.from-n.result a.live a.count in
+    let e : l.g ≡ c.from-m.result = omega arith in
+    per-gate l.opens table c.from-m.result l.invariant.0 (subst (λ (k : ℕ). Changed (λ q v. table q) (replicate most_gates 0) l.opens k) e l.invariant.1)
+    ∙ opens-are c.args.s _ _ c.from-n.ensures c.from-m.ensures c.requires.s_value c.requires.loaded_rows

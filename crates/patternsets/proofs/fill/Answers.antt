@@ -7,7 +7,7 @@ use Rattle.patternsets.proofs.fill.Goals as goal
 
 pub fill_gates-requires : goal.fill_gates-requires
 fill_gates-requires c =
-    let m = c.place.ensures in
+    let m = c.from.ensures in
     let w = c.words_per_set.ensures in
     (omega (arith, (net-ok c.args.s c.requires.s_value).most), w.1, rw (needed c.args.s _ _ m w.0) c.requires.m_in_bounds)
 
@@ -15,7 +15,7 @@ pub returns : goal.returns
 returns c =
     c.fill_gates.ensures
     ∙ overwrites c.args.s _ _ _ _ _
-    c.place.ensures
+    c.from.ensures
     c.words_per_set.ensures.0
     c.odc_sets-odcs.ensures
     c.compatible_sets-sets.ensures

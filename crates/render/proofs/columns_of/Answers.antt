@@ -15,8 +15,8 @@ returns c =
     let a = c.args in
     let s = a.s in
     let t : Columns = record {
-      n = s.n;
-      m = c.place.result;
+      n = c.from.result;
+      m = c.from-2.result;
       digits = c.digits_of-digits.result;
       cdc = c.all_tables-t.result.cdc;
       full = c.all_tables-t.result.full;
@@ -26,6 +26,6 @@ returns c =
     let p = c.requires.s_value in
     let v = net-ok s p.0 in
     let few = v.most in
-    let m = c.place.ensures in
-    let w = shown s t p.0 p.1 p.2 few refl m c.digits_of-digits.ensures c.all_tables-t.ensures refl c.requires.hidden_value in
-    (shows-ready (loaded_net s) t w v.ins (omega arith), shows-text (loaded_net s) t w)
+    let m = c.from-2.ensures in
+    let w = shown s t p.0 p.1 p.2 few c.from.ensures m c.digits_of-digits.ensures c.all_tables-t.ensures refl c.requires.hidden_value in
+    (shows-ready (loaded_net s) t w (rw c.from.ensures v.ins) (omega arith), shows-text (loaded_net s) t w)

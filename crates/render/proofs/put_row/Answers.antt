@@ -30,8 +30,8 @@ put_number-requires c =
     let f = field-within _ _ c.put_field-b.ensures in
     let h = field-within _ _ c.put_field-c.ensures in
     let o = field-within _ _ c.put_field-d.ensures in
-    (c.requires.0.few c.args.g c.requires.1, omega arith)
+    (rw c.from-hidden.ensures (c.requires.0.few c.args.g c.requires.1), omega arith)
 
 pub returns : goal.returns
 returns c =
-    row_laid _ _ _ _ _ _ c.put_number-a.ensures c.put_field-b.ensures c.put_field-c.ensures c.put_field-d.ensures c.put_number.ensures
+    row_laid _ _ _ _ _ _ c.put_number-a.ensures c.put_field-b.ensures c.put_field-c.ensures c.put_field-d.ensures (rw c.from-hidden.ensures at c.put_number.ensures)

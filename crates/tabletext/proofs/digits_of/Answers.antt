@@ -20,7 +20,7 @@ use Rattle.tabletext.proofs.digits_of.Goals.{After-any}
 digits-are : (c : After-any) → digits (loaded_net c.args.s) ≡ cond c.any.result word_digits 4
 digits-are c =
     let x = c.args.s in
-    let m = c.place-m in
+    let m = c.from-m in
     let w : length x.arity ≡ most_gates = search rules in
     digits-by x c.any.result m.result m.ensures (omega arith)
     (any_from_yields_List (ltb narrow.most) _ _ c.any.result c.any.ensures.ran (YieldsList-from_slice (take m.result x.arity) cc) (λ x b q k. search (rules, tests)))

@@ -5,4 +5,4 @@ use Rattle.verdict.proofs.changed.Goals as goal
 pub returns : goal.returns
 returns c =
     let a = c.args in
-    rw (c.place-s.ensures, words-at a.xs.now a.w _ c.requires.2, words-at a.ys.now a.w _ c.requires.2)
+    rw (c.from-s.ensures, words-at a.xs.now a.w _ c.requires.2, words-at a.ys.now a.w _ c.requires.2)

@@ -16,7 +16,7 @@ pub loop-r-preserved : goal.loop-r-preserved
 loop-r-preserved c =
     let l = c.loop-r in
     let a = c.args in
-    let early : c.fanin-f.result < most_signals = omega (arith, c.fanin-f.ensures, c.requires.gate_ok.early l.r (omega (arith, c.place-k.ensures))) in (
+    let early : c.fanin-f.result < most_signals = omega (arith, c.fanin-f.ensures, c.requires.gate_ok.early l.r (omega arith)) in (
       c.lut_row.ensures.0,
       c.intersect.ensures.0,
       λ ts w b s hw hb. rw (c.intersect.ensures.1 w hw) (edge-step a.fanins.now a.edges.now (words_at l.hs w) (words_at a.hs.now w) a.g (get_or a.own.now w 0) l.r c.fanin-f.result
