@@ -1,5 +1,6 @@
 -- `refused_reply`: by the refusal. Assumes nothing.
 use mathlib.Core.Path.{◌≡◌, refl}
+use mathlib.Core.Logic.{⊎_elim}
 use Prim.Native.Nat.{ℕ}
 use Rattle.network.specs.declared.Refusal.{Refusal}
 use Rattle.network.specs.declared.Refusal.TheVariants.{Truncated, UnexpectedMark, OutOfBounds, FaninNotEarlier, FaninRepeated, BitPastEnd, NotASignal, TrailingBytes, BufferTooShort, InvalidState, NotAGate, TableTooWide, ClosedEntry, Harm, ListsUnequal, GateRepeated, OutsideSubset, BadName}
@@ -32,13 +33,7 @@ pub returns-in-Harm : goal.returns-in-Harm
 returns-in-Harm c = rw c.in-Harm.is
 
 pub returns-in-NotAGate : goal.returns-in-NotAGate
-returns-in-NotAGate c = rw c.in-NotAGate.is
-
-pub returns-in-GateRepeated : goal.returns-in-GateRepeated
-returns-in-GateRepeated c = rw c.in-GateRepeated.is
-
-pub returns-in-TableTooWide : goal.returns-in-TableTooWide
-returns-in-TableTooWide c = rw c.in-TableTooWide.is
+returns-in-NotAGate c = ⊎_elim (λ e. rw e) (⊎_elim (λ e. rw e) (λ e. rw e)) c.in-NotAGate.is
 
 pub returns-in_default : goal.returns-in_default
 returns-in_default c = other c.args.r c.args.k c.in_default.not-NotAGate c.in_default.not-GateRepeated c.in_default.not-TableTooWide c.in_default.not-Harm
