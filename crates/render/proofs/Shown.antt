@@ -25,6 +25,7 @@ use Rattle.network.specs.Load.{session_of, load_of}
 use Rattle.network.specs.State.{state_fault}
 use Rattle.network.specs.Calls.{pattern_counts}
 use Rattle.network.proofs.Valid.{state-i}
+use Rattle.network.proofs.TestLaws.{refused-done}
 use Rattle.network.proofs.CountLaws.{counts-at, count-few}
 use Rattle.network.proofs.Fresh.{Fresh}
 use Rattle.network.proofs.Reached.{loaded-fresh}
