@@ -1,23 +1,24 @@
 -- The lines of an answer, cut into the pieces that the functions lay. Assumes nothing.
-use mathlib.Core.Path.{◌≡◌, refl, sym, ap, ◌∙◌, subst}
+use mathlib.Core.Path.{◌≡◌, refl, ap, ◌∙◌, subst}
 use mathlib.Core.List.{List, [], ◌∷◌, ◌++◌, append-nil, append_assoc}
 use Prim.Native.Nat.{ℕ, zero, suc, ◌+◌, ◌-◌, ◌^◌, ◌/◌, ◌%◌, ◌<◌, ◌≤◌}
 use native.Mathlib.Numerals.{add-one}
 use native.Mathlib.Nat.{add-zero}
 use native.Mathlib.Omega.{arith}
-use lib.ListN.{length, get_or, take, drop, length-append, drop_of_length-le}
-use lib.Seq.{drop-cons, get_or-take}
+use lib.ListN.{length, get_or, drop, length-append, drop_of_length-le}
+use lib.Seq.{drop-cons}
 use borrow.Author.Tests.{eq-eqb, ne_eqb}
 use Rattle.bits.specs.Bit.{bit}
-use Rattle.std.specs.Prelude.{Err}
-use Rattle.network.specs.Answer.{Answer, Done}
+use mathlib.Core.Bool.{false≢true}
+use Rattle.std.specs.Prelude.{Result, Ok, Err, MatchResult, is_ok}
+use Rattle.network.specs.Answer.{Answer, giving}
 use Rattle.network.specs.declared.Session.{Session}
 use Rattle.network.specs.declared.Refusal.{Refusal}
+use Rattle.network.specs.declared.Refusal.TheVariants.{NotAGate, TableTooWide}
 use Rattle.network.specs.Net.{Replacement}
 use Rattle.network.specs.Flat.{loaded_net}
 use Rattle.network.specs.Refusals.{number_of, values_of}
-use Rattle.network.specs.Calls.{exchange_answer, exchanged, exchange_of}
-use Rattle.network.proofs.Said.{told-by}
+use Rattle.network.specs.Calls.{exchange_answer, stored, exchange_of}
 use Rattle.buffer.specs.Laid.{Room, Laid}
 use Rattle.buffer.proofs.Laying.{laid-append, laid-length, pending-start, pending_done}
 use Rattle.text.specs.Numbers.{hex, decimal}
@@ -98,61 +99,29 @@ harm-pieces n x i = row (ascii "no: output ") (decimal i) (ascii " changes at pa
     row : (a b c d e f g : Text) → a ++ b ++ c ++ d ++ e ++ f ++ g ≡ joined ((a ++ b) ∷ (c ++ d) ∷ e ∷ f ∷ g ∷ [])
     row a b c d e f g = simp (append_assoc, append-nil)
 
--- a reason by its number
-module _ (b : Text) (at k j : ℕ) (e : k ≡ j) where
-  pub reason-room : Room b at (get_or reasons (k - 1) []) → Room b at (get_or reasons (j - 1) [])
-  reason-room h = subst (λ (i : ℕ). Room b at (get_or reasons (i - 1) [])) e h
+abbrev pub file_pieces : Refusal → (k : ℕ) → List Text
+file_pieces r k = (ascii "refused " ++ decimal k) ∷ ascii ": " ∷ get_or reasons (number_of r - 1) [] ∷ ascii "\n" ∷ []
 
-  pub reason-laid : {b₁ : Text} {r : ℕ} → Laid b at (get_or reasons (j - 1) []) b₁ r → Laid b at (get_or reasons (k - 1) []) b₁ r
-  reason-laid {b₁} {r} l = subst (λ (i : ℕ). Laid b at (get_or reasons (i - 1) []) b₁ r) (sym e) l
-
-past : (l : List Text) (i : ℕ) → length l ≤ i → get_or l i [] ≡ []
-past [] i h = refl
-past (x ∷ l) zero h = let z : suc (length l) ≤ 0 = h in absurd (omega arith)
-past (x ∷ l) (suc i) h = past l i (omega arith)
-
-pub no-reason : (k : ℕ) → 8 < k → get_or reasons (k - 1) [] ≡ []
-no-reason k h = past reasons (k - 1) (omega arith)
-
-pub number-least : (r : Refusal) (k : ℕ) → k ≡ number_of r → 1 ≤ k
-number-least r k e = let h = told-by (λ t. 1 ≤ t.0) (λ n l. l) (λ t. omega arith) (λ x i. omega arith) r in omega arith
-
-abbrev pub file_pieces : (k : ℕ) → List Text
-file_pieces k = (ascii "refused " ++ decimal k) ∷ ascii ": " ∷ get_or reasons (k - 1) [] ∷ ascii "\n" ∷ []
-
-pub file-pieces : (r : Refusal) (k : ℕ) → k ≡ number_of r → file_line r ≡ joined (file_pieces k)
+pub file-pieces : (r : Refusal) (k : ℕ) → k ≡ number_of r → file_line r ≡ joined (file_pieces r k)
 unfolding file_line refused_line
-file-pieces r k e = rw (← e) (row (ascii "refused ") (decimal k) (ascii ": ") (get_or reasons (k - 1) []) (ascii "\n"))
+file-pieces r k e = rw e (row (ascii "refused ") (decimal (number_of r)) (ascii ": ") (get_or reasons (number_of r - 1) []) (ascii "\n"))
   where
     row : (a b c d e : Text) → a ++ b ++ c ++ d ++ e ≡ joined ((a ++ b) ∷ c ∷ d ∷ e ∷ [])
     row a b c d e = simp (append_assoc, append-nil)
 
-module _ (r : Refusal) (name : Text) (k : ℕ) (e : k ≡ number_of r) where
-  pub no-gate-line : k ≡ 11 → pair_refused_line r name ≡ ascii "refused 11: " ++ name ++ ascii " is no gate\n"
-  unfolding pair_refused_line refused_line decimal
-  no-gate-line h = rw (eq-eqb (number_of r) 11 (sym e ∙ h)) (ap (λ (l : Text). ascii "refused 11: " ++ l) (append_assoc name (ascii " is no gate") (ascii "\n")))
+pub no-gate-line : (name : Text) → pair_refused_line NotAGate name ≡ ascii "refused 11: " ++ name ++ ascii " is no gate\n"
+unfolding pair_refused_line refused_line decimal
+no-gate-line name = simp append_assoc
 
-  pub wide-line : (k ≡ 11 → ⊥) → k ≡ 12 → pair_refused_line r name ≡ ascii "refused 12: the table of gate " ++ name ++ ascii " is too wide\n"
-  unfolding pair_refused_line refused_line decimal
-  wide-line g h =
-      rw (ne_eqb (number_of r) 11 (λ q. g (e ∙ q)), eq-eqb (number_of r) 12 (sym e ∙ h))
-      (ap (λ (l : Text). ascii "refused 12: the table of gate " ++ l) (append_assoc name (ascii " is too wide") (ascii "\n")))
+pub wide-line : (name : Text) → pair_refused_line TableTooWide name ≡ ascii "refused 12: the table of gate " ++ name ++ ascii " is too wide\n"
+unfolding pair_refused_line refused_line decimal
+wide-line name = simp append_assoc
 
-  pub twice-line : (k ≡ 11 → ⊥) → (k ≡ 12 → ⊥) → pair_refused_line r name ≡ ascii "refused 16: gate " ++ name ++ ascii " is named twice\n"
-  unfolding pair_refused_line refused_line decimal
-  twice-line g h =
-      rw (ne_eqb (number_of r) 11 (λ q. g (e ∙ q)), ne_eqb (number_of r) 12 (λ q. h (e ∙ q)))
-      (ap (λ (l : Text). ascii "refused 16: gate " ++ l) (append_assoc name (ascii " is named twice") (ascii "\n")))
+pub twice-line : (r : Refusal) (name : Text) → (r ≡ NotAGate → ⊥) → (r ≡ TableTooWide → ⊥) → pair_refused_line r name ≡ ascii "refused 16: gate " ++ name ++ ascii " is named twice\n"
+unfolding pair_refused_line refused_line decimal
+twice-line r name g w = grind (arith, append_assoc)
 
 -- ## A line for each pair
-
--- the first of the values that a refusal names, which are the first k of vs
-module _ (k : ℕ) (vs : List ℕ) {told : List ℕ} (e : take k vs ≡ told) where
-  pub no_value : k ≡ 0 → 0 ≡ get_or told 0 0
-  no_value z = ap (λ (j : ℕ). get_or (take j vs) 0 0) (sym z) ∙ ap (λ (l : List ℕ). get_or l 0 0) e
-
-  pub some-value : (k ≡ 0 → ⊥) → get_or vs 0 0 ≡ get_or told 0 0
-  some-value n = sym (get_or-take k vs 0 0 (omega arith)) ∙ ap (λ (l : List ℕ). get_or l 0 0) e
 
 abbrev pub closed_pieces : (t : ℕ) → List Text
 closed_pieces t = (ascii ": entry " ++ decimal t) ∷ ascii " is closed\n" ∷ []
@@ -169,29 +138,29 @@ pair_pieces name c old table a = (ascii "gate " ++ name ++ ascii " from ") ∷ h
 pair_row : (a b c d e f g : Text) → a ++ b ++ c ++ d ++ e ++ f ++ g ≡ joined ((a ++ b ++ c) ∷ d ∷ e ∷ f ∷ g ∷ [])
 pair_row a b c d e f g = simp (append_assoc, append-nil)
 
-answer-in : (a : Answer) (s : Session) (r : Replacement) → (exchanged a s r).answer ≡ a
-answer-in Done s r = refl
-answer-in (Err f) s r = refl
+-- without the session that it gives, an exchange's result is its answer
+answer-left : {T : Type 0} (a : Answer) (v : T) (y : Answer) (P : T → Type 0) → MatchResult (giving a v) P (λ r. y ≡ Err r) → is_ok y ≡ is_ok (giving a v) → y ≡ a
+answer-left (Ok _) v (Ok _) P m k = refl
+answer-left (Ok _) v (Err r) P m k = absurd (false≢true k)
+answer-left (Err r) v y P m k = m
 
-pub exchange-answer : (s : Session) (r : Replacement) (x : Exchanged) → x ≡ exchange_of s r → x.answer ≡ exchange_answer s r
+pub exchange-answer : (s : Session) (r : Replacement) {x : Result Session Refusal} {y : Answer} (P : Session → Type 0) → x ≡ exchange_of s r
+    → MatchResult x P (λ r. y ≡ Err r) → is_ok y ≡ is_ok x → y ≡ exchange_answer s r
 unfolding exchange_of
-exchange-answer s r x e = ap {B = Answer} (λ (y : Exchanged). y.answer) e ∙ answer-in (exchange_answer s r) s r
+exchange-answer s r {x} {y} P e m k = answer-left (exchange_answer s r) (stored s r) y P (rw e at m) (rw e at k)
 
-module _ (s : Session) (name : Text) (gate table c : ℕ) (x : Exchanged) (g : gate ≡ signal_named name) (d : c ≡ digits (loaded_net s))
-    (e : x ≡ exchange_of s (record { signal = gate; table = table })) where
-  answer-of : x.answer ≡ exchange_answer s (record { signal = gate; table = table })
-  answer-of = exchange-answer s (record { signal = gate; table = table }) x e
-
-  pub pair-pieces : pair_line s (record { gate = name; table = table }) ≡ joined (pair_pieces name c (get_or s.loaded (gate - s.n) 0) table x.answer)
+module _ (s : Session) (name : Text) (gate table c : ℕ) (y : Answer) (g : gate ≡ signal_named name) (d : c ≡ digits (loaded_net s))
+    (e : y ≡ exchange_answer s (record { signal = gate; table = table })) where
+  pub pair-pieces : pair_line s (record { gate = name; table = table }) ≡ joined (pair_pieces name c (get_or s.loaded (gate - s.n) 0) table y)
   unfolding pair_line
   pair-pieces =
-      rw (answer-of, g, d)
+      rw (e, g, d)
       (pair_row (ascii "gate ") name (ascii " from ") (hex (digits (loaded_net s)) (get_or s.loaded (signal_named name - s.n) 0)) (ascii " to ")
       (hex (digits (loaded_net s)) table)
       (open_text (exchange_answer s (record { signal = signal_named name; table = table }))))
 
-  pub pair-entry : Shown s (record { signal = gate; table = table }) → entry_of x.answer < 10000
-  pair-entry h = rw answer-of h.entry
+  pub pair-entry : Shown s (record { signal = gate; table = table }) → entry_of y < 10000
+  pair-entry h = rw e h.entry
 
 -- ## The lines of all pairs
 

@@ -4,7 +4,7 @@
 ghost use Rattle.std.specs.Prelude.{◌≡◌, [], ◌++◌, ◌-◌, ◌<◌, ◌≤◌, length, get_or};
 ghost use Rattle.bits.specs.Bounds.{most_inputs};
 ghost use Rattle.network.specs.Flat.{loaded_net};
-ghost use Rattle.network.specs.Refusals.{values_of};
+ghost use Rattle.network.specs.Refusals.{number_of, values_of};
 ghost use Rattle.buffer.specs.Laid.{Room, Laid};
 ghost use Rattle.text.specs.Numbers.{decimal};
 ghost use Rattle.tabletext.specs.Digits as tables;
@@ -81,20 +81,28 @@ fn put_harm(buf: &mut [u8], n: usize, x: usize, i: usize) -> usize
     buffer::copy(buf, d, b"\n")
 }
 
-// Why a file is refused, by the refusal's number.
-fn put_reason(buf: &mut [u8], at: usize, k: u64) -> usize
-    requires { (1 ≤ k) × Room buf.old at (get_or reasons (k - 1) []) }
-    ensures { Laid buf.old at (get_or reasons (k - 1) []) buf.new result }
+// Why a file is refused.
+fn put_reason(buf: &mut [u8], at: usize, r: Refusal) -> usize
+    requires { Room buf.old at (get_or reasons (number_of r - 1) []) }
+    ensures { Laid buf.old at (get_or reasons (number_of r - 1) []) buf.new result }
 {
-    match k {
-        1 => buffer::copy(buf, at, b"the file ends too soon"),
-        2 => buffer::copy(buf, at, b"no network file, or a record out of place"),
-        3 => buffer::copy(buf, at, b"a count is out of bounds"),
-        4 => buffer::copy(buf, at, b"a fan-in is no earlier signal"),
-        5 => buffer::copy(buf, at, b"a gate lists a fan-in twice"),
-        6 => buffer::copy(buf, at, b"a bit is set past the end of a table or set"),
-        7 => buffer::copy(buf, at, b"an output is no signal"),
-        8 => buffer::copy(buf, at, b"bytes follow the last record"),
+    match r {
+        Refusal::Truncated => buffer::copy(buf, at, b"the file ends too soon"),
+        Refusal::UnexpectedMark => buffer::copy(
+            buf,
+            at,
+            b"no network file, or a record out of place",
+        ),
+        Refusal::OutOfBounds => buffer::copy(buf, at, b"a count is out of bounds"),
+        Refusal::FaninNotEarlier => buffer::copy(buf, at, b"a fan-in is no earlier signal"),
+        Refusal::FaninRepeated => buffer::copy(buf, at, b"a gate lists a fan-in twice"),
+        Refusal::BitPastEnd => buffer::copy(
+            buf,
+            at,
+            b"a bit is set past the end of a table or set",
+        ),
+        Refusal::NotASignal => buffer::copy(buf, at, b"an output is no signal"),
+        Refusal::TrailingBytes => buffer::copy(buf, at, b"bytes follow the last record"),
         _ => at,
     }
 }
@@ -106,7 +114,7 @@ fn put_file_refused(buf: &mut [u8], r: Refusal) -> usize
     let k = network::number_of(r);
     let a = put_numbered(buf, 0, b"refused ", k);
     let b = buffer::copy(buf, a, b": ");
-    let c = put_reason(buf, b, k);
+    let c = put_reason(buf, b, r);
     buffer::copy(buf, c, b"\n")
 }
 
@@ -114,20 +122,17 @@ fn put_pair_refused(buf: &mut [u8], r: Refusal, name: &[u8]) -> usize
     requires { Room buf.old 0 (pair_refused_line r name.now) }
     ensures { Laid buf.old 0 (pair_refused_line r name.now) buf.new result }
 {
-    let k = network::number_of(r);
-    if k == 11 {
-        return put_around(buf, 0, b"refused 11: ", name, b" is no gate\n");
-    }
-    if k == 12 {
-        return put_around(
+    match r {
+        Refusal::NotAGate => put_around(buf, 0, b"refused 11: ", name, b" is no gate\n"),
+        Refusal::TableTooWide => put_around(
             buf,
             0,
             b"refused 12: the table of gate ",
             name,
             b" is too wide\n",
-        );
+        ),
+        _ => put_around(buf, 0, b"refused 16: gate ", name, b" is named twice\n"),
     }
-    put_around(buf, 0, b"refused 16: gate ", name, b" is named twice\n")
 }
 
 // ## A line for each pair
@@ -136,12 +141,11 @@ fn put_pair_refused(buf: &mut [u8], r: Refusal, name: &[u8]) -> usize
 fn first_value(r: Refusal) -> u64
     ensures { result ≡ get_or (values_of r) 0 0 }
 {
-    let t = network::told(r);
-    if t.1 == 0 {
-        return 0;
+    match r {
+        Refusal::ClosedEntry(t) => t as u64,
+        Refusal::Harm { pattern, .. } => pattern as u64,
+        _ => 0,
     }
-    let values = t.2;
-    values[0]
 }
 
 // What would be answered to an exchange, at the end of a pair's line.
@@ -149,12 +153,14 @@ fn put_open(buf: &mut [u8], at: usize, a: Result<(), Refusal>) -> usize
     requires { (entry_of a < 10000) × Room buf.old at (open_text a) }
     ensures { Laid buf.old at (open_text a) buf.new result }
 {
-    if let Err(r) = a {
-        let t = first_value(r);
-        let b = put_numbered(buf, at, b": entry ", t);
-        return buffer::copy(buf, b, b" is closed\n");
+    match a {
+        Ok(()) => buffer::copy(buf, at, b": open\n"),
+        Err(r) => {
+            let t = first_value(r);
+            let b = put_numbered(buf, at, b": entry ", t);
+            buffer::copy(buf, b, b" is closed\n")
+        }
     }
-    buffer::copy(buf, at, b": open\n")
 }
 
 // The line of one pair, its tables with so many digits.
@@ -175,8 +181,7 @@ fn put_pair(
     let n = s.n as usize;
     let g = signal - n;
     let old = s.loaded[g];
-    let x = engine::exchange(s, signal, table);
-    let y = x.answer;
+    let y = engine::exchange(s, signal, table).map(|_| ());
     let a = put_around(buf, at, b"gate ", name, b" from ");
     let b = text::put_hex(buf, a, old, digits);
     let c = buffer::copy(buf, b, b" to ");
@@ -256,7 +261,7 @@ pub fn answer(buf: &mut [u8], file: &[u8], text: &[u8], o: Order) -> Answered
     let n = put_answer(buf, reply, s, text, o);
     Answered {
         size: n,
-        reply: reply,
+        reply,
         session: s,
     }
 }

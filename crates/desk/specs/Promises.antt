@@ -1,7 +1,7 @@
 -- What the desk promises of every file of bytes and every order. Assumes nothing.
 use Rattle.std.specs.Prelude.{◌≡◌, ◌↔◌, Bool, true, false, cond, List, [], ◌∷◌, ◌++◌, map, ℕ, ◌+◌, ◌-◌, ◌*◌, ◌<◌, ◌≤◌, length, take}
 use Rattle.std.specs.Prelude.{Ok, Err}
-use Rattle.network.specs.Answer.{Done, answer_of}
+use Rattle.network.specs.Answer.{Done}
 use Rattle.network.specs.declared.Session.{Session}
 use Rattle.network.specs.declared.Refusal.{Refusal}
 use Rattle.network.specs.Bounds.{most_gates, most_file_bytes}

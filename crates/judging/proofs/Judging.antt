@@ -1,12 +1,13 @@
 -- The turns of the loop over all pairs, and what a reply, a file's judgement and a new board come to. Assumes nothing.
 use mathlib.Core.Path.{◌≡◌, refl, sym, ap, subst, ◌∙◌}
-use mathlib.Core.Bool.{Bool, true, false, ◌&&◌, false≢true}
+use mathlib.Core.Bool.{Bool, true, false, not, ◌&&◌, false≢true}
 use mathlib.Core.List.{List, [], ◌∷◌, map}
 use Prim.Native.Nat.{ℕ, zero, suc, ◌+◌, ◌-◌, ◌<◌, ◌≤◌}
 use native.Mathlib.Omega.{arith}
 use lib.ListN.{length, get_or, take, drop, drop_of_length-le, length-append}
 use Rattle.bits.specs.Lists.{overwritten}
 use Rattle.std.specs.Prelude.{Result, Ok, Err}
+use Rattle.std.specs.Result.{is_err}
 use Rattle.network.specs.Answer.{Answer, Done}
 use Rattle.network.specs.declared.Session.{Session}
 use Rattle.network.specs.declared.Refusal.{Refusal}
@@ -16,7 +17,7 @@ use Rattle.network.specs.Flat.{loaded_net, stored_all}
 use Rattle.network.specs.Lists.{Sound}
 use Rattle.network.specs.Tests.{is_done}
 use Rattle.network.specs.State.{state_fault}
-use Rattle.network.specs.Load.{session_of, load_of}
+use Rattle.network.specs.Load.{started, session_of, load_of}
 use Rattle.network.specs.Write.{bytes_of}
 use Rattle.network.specs.Calls.{with_current, exchange_answer, pairs, refused_at, verdict_of}
 use Rattle.network.proofs.Fresh.{Fresh}
@@ -31,6 +32,7 @@ use Rattle.ordertext.specs.Order.{Pair, signal_of, replacement_of, order_of, pai
 use Rattle.ordertext.specs.Reads.{count_in, pairs_given, Reads}
 use Rattle.ordertext.proofs.Given.{given-pairs}
 use Rattle.desk.specs.declared.Reply.{Reply}
+use Rattle.desk.specs.declared.Reply.TheVariants.{FileRefused}
 use Rattle.desk.specs.Reply.{all_open, reply_with, reply_on, reply_for, reply_of, grants, placed, board_of}
 use Rattle.desk.proofs.Placed.{placed-valid}
 use Rattle.desk.proofs.Replies.{granted-verdict, verdict-sound}
@@ -38,24 +40,28 @@ use Rattle.judging.specs.Judged.{replacements_in, judged_of, Placeable, Put, Giv
 
 -- ## All pairs open
 
+done-not_err : (a : Answer) → is_done a ≡ not (is_err a)
+done-not_err (Ok _) = refl
+done-not_err (Err r) = refl
+
 module _ (s : Session) (gs ts : List ℕ) where
   -- those from pair i on are all open as all are
   abbrev pub Left : ℕ → Type 0
   Left i = all_open s (pairs (drop i gs) (drop i ts)) ≡ all_open s (pairs gs ts)
 
-  module _ (i : ℕ) (h : i < length gs) (l : i < length ts) (left : Left i) (a : Answer)
+  module _ (i : ℕ) (h : i < length gs) (l : i < length ts) (left : Left i) {a : Answer}
       (e : a ≡ exchange_answer s (record { signal = get_or gs i 0; table = get_or ts i 0 })) where
-    whole : (b : Answer) → a ≡ b → is_done b && all_open s (pairs (drop (i + 1) gs) (drop (i + 1) ts)) ≡ all_open s (pairs gs ts)
+    turn : {b : Bool} → b ≡ is_err a → not b && all_open s (pairs (drop (i + 1) gs) (drop (i + 1) ts)) ≡ all_open s (pairs gs ts)
     unfolding all_open
-    whole b d =
-        ap (λ (x : Answer). is_done x && all_open s (pairs (drop (i + 1) gs) (drop (i + 1) ts))) (sym d ∙ e)
+    turn {b} d =
+        ap (λ (x : Bool). x && all_open s (pairs (drop (i + 1) gs) (drop (i + 1) ts))) (ap not d ∙ sym (done-not_err a) ∙ ap is_done e)
         ∙ sym (ap (all_open s) (pairs-at gs ts i h l)) ∙ left
 
-    pub open-stops : {f : Refusal} → a ≡ Err f → false ≡ all_open s (pairs gs ts)
-    open-stops {f} d = whole (Err f) d
+    pub open-stops : true ≡ is_err a → false ≡ all_open s (pairs gs ts)
+    open-stops d = turn d
 
-    pub open_next : a ≡ Done → Left (i + 1)
-    open_next d = whole Done d
+    pub open_next : false ≡ is_err a → Left (i + 1)
+    open_next d = turn d
 
   pub open-end : (i : ℕ) → length gs ≤ i → Left i → true ≡ all_open s (pairs gs ts)
   unfolding all_open

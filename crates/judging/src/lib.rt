@@ -34,13 +34,8 @@ fn reply_with(v: Result<(), Refusal>, k: usize, opens: bool) -> Reply
     ensures { result ≡ reply_with v k opens }
 {
     match v {
-        Ok(()) => {
-            if opens {
-                Reply::Open
-            } else {
-                Reply::Alone
-            }
-        }
+        Ok(()) if opens => Reply::Open,
+        Ok(()) => Reply::Alone,
         Err(r) => refused_reply(r, k),
     }
 }

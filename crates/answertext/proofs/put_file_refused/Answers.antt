@@ -2,15 +2,15 @@
 use native.Mathlib.Omega.{arith}
 use Rattle.desk.specs.Answer.{file_line}
 use Rattle.answertext.proofs.Pieces.{Due, due, due-room, due-next, due-done}
-use Rattle.answertext.proofs.Printed.{file_pieces, file-pieces, number-least}
+use Rattle.answertext.proofs.Printed.{file_pieces, file-pieces}
 use Rattle.answertext.proofs.put_file_refused.Goals as goal
 use Rattle.answertext.proofs.put_file_refused.Goals.{After-number_of-k}
 
 -- no piece is laid yet
-none : (c : After-number_of-k) → Due c.args.buf.now 0 (file_line c.args.r) c.args.buf.now 0 (file_pieces c.number_of-k.result)
+none : (c : After-number_of-k) → Due c.args.buf.now 0 (file_line c.args.r) c.args.buf.now 0 (file_pieces c.args.r c.number_of-k.result)
 none c =
     let k = c.number_of-k in
-    due c.args.buf.now 0 (file_pieces k.result) (file-pieces c.args.r k.result k.ensures.0) c.requires
+    due c.args.buf.now 0 (file_pieces c.args.r k.result) (file-pieces c.args.r k.result k.ensures.0) c.requires
 
 pub put_numbered-a-requires : goal.put_numbered-a-requires
 put_numbered-a-requires c =
@@ -21,10 +21,8 @@ pub copy-b-requires : goal.copy-b-requires
 copy-b-requires c = due-room (due-next (none (goal.at.copy-b-requires c).After-number_of-k) c.put_numbered-a.ensures)
 
 pub put_reason-c-requires : goal.put_reason-c-requires
-put_reason-c-requires c = (
-  number-least c.args.r c.number_of-k.result c.number_of-k.ensures.0,
-  due-room (due-next (due-next (none (goal.at.put_reason-c-requires c).After-number_of-k) c.put_numbered-a.ensures) c.copy-b.ensures),
-)
+put_reason-c-requires c =
+    due-room (due-next (due-next (none (goal.at.put_reason-c-requires c).After-number_of-k) c.put_numbered-a.ensures) c.copy-b.ensures)
 
 pub copy-requires : goal.copy-requires
 copy-requires c =

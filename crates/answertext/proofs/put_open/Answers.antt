@@ -26,8 +26,8 @@ put_numbered-b-requires c =
     let v = c.first_value-t in
     (entry-few x.a r v.result e v.ensures c.requires.0, due-room (none x.buf.now x.at x.a r v.result e v.ensures c.requires.1))
 
-pub copy-requires : goal.copy-requires
-copy-requires c =
+pub copy-requires-in-Err : goal.copy-requires-in-Err
+copy-requires-in-Err c =
     let x = c.args in
     let v = c.first_value-t in
     due-room (due-next (none x.buf.now x.at x.a c.in-Err.r v.result c.in-Err.is v.ensures c.requires.1) c.put_numbered-b.ensures)
@@ -36,10 +36,4 @@ pub returns-in-Err : goal.returns-in-Err
 returns-in-Err c =
     let x = c.args in
     let v = c.first_value-t in
-    due-done (due-next (due-next (none x.buf.now x.at x.a c.in-Err.r v.result c.in-Err.is v.ensures c.requires.1) c.put_numbered-b.ensures) c.copy.ensures)
-
-pub copy-requires-2 : goal.copy-requires-2
-copy-requires-2 c = rw c.in_default.is at c.requires.1
-
-pub returns : goal.returns
-returns c = rw c.in_default.is c.copy-2.ensures
+    due-done (due-next (due-next (none x.buf.now x.at x.a c.in-Err.r v.result c.in-Err.is v.ensures c.requires.1) c.put_numbered-b.ensures) c.copy-in-Err.ensures)
