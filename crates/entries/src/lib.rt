@@ -1,7 +1,7 @@
 // Simulation: the entries of a gate that the patterns of a word give or deliver.
 #![tactic(auto)]
 
-ghost use Rattle.std.specs.Prelude.{◌≡◌, ◌&&◌, ℕ, ◌+◌, ◌^◌, ◌<◌, ◌≤◌, eqb, get_or};
+ghost use Rattle.std.specs.Prelude.{◌≡◌, ◌&&◌, ℕ, ◌^◌, ◌<◌, ◌≤◌, eqb, get_or};
 ghost use Rattle.std.specs.Int.Bits.{bit_or};
 ghost use Rattle.bits.specs.Bounds.{small_fanins};
 ghost use Rattle.bits.specs.Range.{any};
@@ -27,44 +27,26 @@ fn delivered(k: usize, ins: &[u64; GATE_PLACES], frees: &[u64; GATE_PLACES], kee
     acc
 }
 
-// The same of one fan-in more, the one at place `last`, by halves: the entries with it 0, then those with it 1, each from the places of keep
-// that have it so.
-fn by_halves<F: Fn(u64) -> u64>(
-    last: usize,
-    ins: &[u64; GATE_PLACES],
-    frees: &[u64; GATE_PLACES],
-    keep: u64,
-    half: F,
-) -> u64
-    requires last_lt_most_fanins { last < most_fanins }
-    requires half_pre { (part : ℕ) → part < 2 ^ 64 → F.pre half part }
-    requires half_post { (part r : ℕ) → part < 2 ^ 64 → F.post half part r → r ≡ delivered_by last ins.now frees.now part }
-    ensures { result ≡ delivered_by (last + 1) ins.now frees.now keep }
-{
-    let value = ins[last];
-    let free = frees[last];
-    let low = half(keep & (free | bits::complement(value)));
-    let high = half(keep & (free | value));
-    low + (high << entry_count(last))
-}
-
-// Of five fan-ins, and of six.
+// The same of five fan-ins, and of six, by halves: the entries with the last one 0, then those with it 1, each from the places of keep that
+// have it so.
 fn delivered5(ins: [u64; GATE_PLACES], frees: [u64; GATE_PLACES], keep: u64) -> u64
     ensures { result ≡ delivered_by 5 ins frees keep }
 {
-    by_halves(
-        4,
-        &ins,
-        &frees,
-        keep,
-        |part| delivered(4, &ins, &frees, part),
-    )
+    let value = ins[4];
+    let free = frees[4];
+    let low = delivered(4, &ins, &frees, keep & (free | bits::complement(value)));
+    let high = delivered(4, &ins, &frees, keep & (free | value));
+    low + (high << 16)
 }
 
 fn delivered6(ins: [u64; GATE_PLACES], frees: [u64; GATE_PLACES], keep: u64) -> u64
     ensures { result ≡ delivered_by 6 ins frees keep }
 {
-    by_halves(5, &ins, &frees, keep, |part| delivered5(ins, frees, part))
+    let value = ins[5];
+    let free = frees[5];
+    let low = delivered5(ins, frees, keep & (free | bits::complement(value)));
+    let high = delivered5(ins, frees, keep & (free | value));
+    low + (high << 32)
 }
 
 // Of the entries given, those whose two words share a place: entry t's words are low[t % 8] and high[t / 8].

@@ -64,10 +64,6 @@ module _ (s : Session) (gate : ℕ) (out : List ℕ) (valid : state_test s ≡ D
 -- ## The number of patterns in H of each gate, off the array of all gates
 
 module _ (s : Session) (valid : state_test s ≡ Done) where
-  -- in a valid session they are not refused
-  pub counts-never : {P : Type 0} {r : Refusal} → Err r ≡ counts_of s → P
-  counts-never {r = r} e = refused-done r (ap answer_of (e ∙ sym (counts-done s valid)))
-
   module _ {cs : List ℕ} (e : Ok cs ≡ counts_of s) where
     abbrev counted : ℕ → ℕ
     counted g = compatible_count (loaded_net s) (s.n + g)
