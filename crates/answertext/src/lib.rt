@@ -82,28 +82,19 @@ fn put_harm(buf: &mut [u8], n: usize, x: usize, i: usize) -> usize
 }
 
 // Why a file is refused.
-fn put_reason(buf: &mut [u8], at: usize, r: Refusal) -> usize
-    requires { Room buf.old at (get_or reasons (number_of r - 1) []) }
-    ensures { Laid buf.old at (get_or reasons (number_of r - 1) []) buf.new result }
+fn reason(r: Refusal) -> &'static [u8]
+    ensures { result.now ≡ get_or reasons (number_of r - 1) [] }
 {
     match r {
-        Refusal::Truncated => buffer::copy(buf, at, b"the file ends too soon"),
-        Refusal::UnexpectedMark => buffer::copy(
-            buf,
-            at,
-            b"no network file, or a record out of place",
-        ),
-        Refusal::OutOfBounds => buffer::copy(buf, at, b"a count is out of bounds"),
-        Refusal::FaninNotEarlier => buffer::copy(buf, at, b"a fan-in is no earlier signal"),
-        Refusal::FaninRepeated => buffer::copy(buf, at, b"a gate lists a fan-in twice"),
-        Refusal::BitPastEnd => buffer::copy(
-            buf,
-            at,
-            b"a bit is set past the end of a table or set",
-        ),
-        Refusal::NotASignal => buffer::copy(buf, at, b"an output is no signal"),
-        Refusal::TrailingBytes => buffer::copy(buf, at, b"bytes follow the last record"),
-        _ => at,
+        Refusal::Truncated => b"the file ends too soon",
+        Refusal::UnexpectedMark => b"no network file, or a record out of place",
+        Refusal::OutOfBounds => b"a count is out of bounds",
+        Refusal::FaninNotEarlier => b"a fan-in is no earlier signal",
+        Refusal::FaninRepeated => b"a gate lists a fan-in twice",
+        Refusal::BitPastEnd => b"a bit is set past the end of a table or set",
+        Refusal::NotASignal => b"an output is no signal",
+        Refusal::TrailingBytes => b"bytes follow the last record",
+        _ => b"",
     }
 }
 
@@ -114,7 +105,7 @@ fn put_file_refused(buf: &mut [u8], r: Refusal) -> usize
     let k = network::number_of(r);
     let a = put_numbered(buf, 0, b"refused ", k);
     let b = buffer::copy(buf, a, b": ");
-    let c = put_reason(buf, b, r);
+    let c = buffer::copy(buf, b, reason(r));
     buffer::copy(buf, c, b"\n")
 }
 

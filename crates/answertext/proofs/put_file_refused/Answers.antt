@@ -20,14 +20,16 @@ put_numbered-a-requires c =
 pub copy-b-requires : goal.copy-b-requires
 copy-b-requires c = due-room (due-next (none (goal.at.copy-b-requires c).After-number_of-k) c.put_numbered-a.ensures)
 
-pub put_reason-c-requires : goal.put_reason-c-requires
-put_reason-c-requires c =
-    due-room (due-next (due-next (none (goal.at.put_reason-c-requires c).After-number_of-k) c.put_numbered-a.ensures) c.copy-b.ensures)
+pub copy-c-requires : goal.copy-c-requires
+copy-c-requires c =
+    rw c.reason.ensures (due-room (due-next (due-next (none (goal.at.copy-c-requires c).After-number_of-k) c.put_numbered-a.ensures) c.copy-b.ensures))
 
 pub copy-requires : goal.copy-requires
 copy-requires c =
-    due-room (due-next (due-next (due-next (none (goal.at.copy-requires c).After-number_of-k) c.put_numbered-a.ensures) c.copy-b.ensures) c.put_reason-c.ensures)
+    let w = rw c.reason.ensures at c.copy-c.ensures in
+    due-room (due-next (due-next (due-next (none (goal.at.copy-requires c).After-number_of-k) c.put_numbered-a.ensures) c.copy-b.ensures) w)
 
 pub returns : goal.returns
 returns c =
-    due-done (due-next (due-next (due-next (due-next (none (goal.at.returns c).After-number_of-k) c.put_numbered-a.ensures) c.copy-b.ensures) c.put_reason-c.ensures) c.copy.ensures)
+    let w = rw c.reason.ensures at c.copy-c.ensures in
+    due-done (due-next (due-next (due-next (due-next (none (goal.at.returns c).After-number_of-k) c.put_numbered-a.ensures) c.copy-b.ensures) w) c.copy.ensures)
