@@ -132,13 +132,6 @@ pub fn started(n: u8, m: u8, p: u8) -> Session
     }
 }
 
-// A number of a byte array as a place.
-pub fn place(x: u8) -> usize
-    ensures { result ≡ x }
-{
-    x as usize
-}
-
 // How many bytes hold 2^n bits.
 pub fn set_bytes(n: u8) -> usize
     requires { n ≤ most_inputs }
@@ -147,7 +140,7 @@ pub fn set_bytes(n: u8) -> usize
     if n < 3 {
         return 1;
     }
-    (bits::power(n as u64) / 8) as usize
+    (bits::power(u64::from(n)) / 8) as usize
 }
 
 // A refusal's number, and the values that it names.

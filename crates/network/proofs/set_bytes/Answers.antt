@@ -7,4 +7,4 @@ pub returns-then-n-lt3 : goal.returns-then-n-lt3
 returns-then-n-lt3 c = (set-small _ c.if-n-lt3.true, omega arith)
 
 pub returns : goal.returns
-returns c = set-large c.args.n c.power.result c.if-n-lt3.false c.requires c.power.ensures
+returns c = set-large c.args.n c.power.result c.if-n-lt3.false c.requires (rw c.from.ensures at c.power.ensures)
