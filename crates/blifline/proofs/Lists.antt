@@ -1,11 +1,15 @@
 -- Words of a line, one after the other, as a loop meets them. Assumes nothing.
-use mathlib.Core.Path.{◌≡◌, refl, sym, ap, ◌∙◌}
+use mathlib.Core.Path.{◌≡◌, refl, sym, ap, ap₂, ◌∙◌}
 use mathlib.Core.Bool.{Bool, true, false, not, cond, ◌&&◌}
 use mathlib.Core.List.{List, [], ◌∷◌, map}
 use Prim.Native.Nat.{ℕ, suc, ◌+◌, ◌-◌, ◌≤◌, ◌<◌}
 use native.Mathlib.Numerals.{add-one}
 use native.Mathlib.Omega.{arith}
-use lib.Dec.{ltb}
+use borrow.Author.Tests.{ltb-false}
+use Rattle.std.specs.Prelude.{Option, Some, None}
+use Rattle.std.specs.Option.{is_some, unwrap_or}
+use Rattle.std.specs.List.{list_all}
+use Rattle.bits.proofs.Ranges.{by_cases}
 use lib.ListN.{length, get_or, take, drop, set, drop_of_length-le}
 use lib.Seq.{sets, drop-cons, drop-drop}
 use Rattle.text.specs.Words.{Text, all}
@@ -13,7 +17,7 @@ use Rattle.blif.specs.Text.{fields}
 use Rattle.blif.specs.Read.{same, place_in, known}
 use Rattle.bliftext.specs.declared.Span.{Span}
 use Rattle.bliftext.specs.Spans.{span_of, WordAt}
-use Rattle.bliftext.specs.Named.{names_at}
+use Rattle.bliftext.specs.Named.{names_at, place_among}
 use Rattle.bliftext.proofs.Names.{many, name-is}
 use Rattle.bliftext.proofs.Spans.{some_left, none_left, first-left}
 
@@ -52,13 +56,33 @@ place-le (v ∷ vs) w = go (same v w) (place-le vs w)
     go true h = omega arith
     go false h = omega arith
 
--- a name by its place
-module _ (text : Text) (names : List Span) (w : Text) (p : ℕ) (e : p ≡ place_in (names_at text names) w) where
-  pub place-few : p ≤ length names
-  place-few = let l = place-le (names_at text names) w in let n = many text names in omega arith
+some-if : (b : Bool) (p : ℕ) → is_some (cond b (Some p) None) ≡ b
+some-if true p = refl
+some-if false p = refl
 
-  pub place-known : ltb p (length names) ≡ known (names_at text names) w
-  place-known = ap (λ (n : ℕ). ltb n (length names)) e ∙ ap (ltb (place_in (names_at text names) w)) (sym (many text names))
+place-or : (vs : List Text) (w : Text) → unwrap_or (place_among vs w) (length vs) ≡ place_in vs w
+place-or vs w =
+    let l = place-le vs w in
+    by_cases (known vs w) (λ t. rw t) (λ t. let o = ltb-false (place_in vs w) (length vs) t in rw t (omega arith))
+
+-- a name by its place
+module _ (text : Text) (names : List Span) (w : Text) (r : Option ℕ) (e : r ≡ place_among (names_at text names) w) where
+  pub place-known : is_some r ≡ known (names_at text names) w
+  place-known = ap is_some e ∙ some-if (known (names_at text names) w) (place_in (names_at text names) w)
+
+  -- the number of names where it is none of them
+  pub place-is : unwrap_or r (length names) ≡ place_in (names_at text names) w
+  place-is = ap (λ (o : Option ℕ). unwrap_or o (length names)) e ∙ ap (unwrap_or (place_among (names_at text names) w)) (sym (many text names)) ∙ place-or (names_at text names) w
+
+  pub place-few : unwrap_or r (length names) ≤ length names
+  place-few = let l = place-le (names_at text names) w in let n = many text names in omega (arith, place-is)
+
+-- whether each name is among others, by the names' places
+pub all-among : (vs : List Text) (text : Text) (names : List Span) → list_all (λ n. is_some (place_among vs (span_of text n))) names ≡ all (known vs) (names_at text names)
+all-among vs text [] = refl
+all-among vs text (n ∷ names) =
+    let w = span_of text n in
+    ap₂ (λ (b c : Bool). b && c) (some-if (known vs w) (place_in vs w)) (all-among vs text names)
 
 -- ## The last word
 
@@ -89,21 +113,12 @@ module _ (text : Text) (names : List Span) (i : ℕ) where
     name-i : drop i (names_at text names) ≡ span_of text (get_or names i d) ∷ drop (i + 1) (names_at text names)
     name-i = drop-cons ns i [] (rw (many text names) h) ∙ rw (name-is text names i d h, add-one)
 
-    pub names-not : (p : Text → Bool) → p (span_of text (get_or names i d)) ≡ false → false ≡ all p (drop i (names_at text names))
-    names-not p e = rw (name-i, e)
-
-    pub names-on : (p : Text → Bool) → p (span_of text (get_or names i d)) ≡ true → all p (drop (i + 1) (names_at text names)) ≡ all p (drop i (names_at text names))
-    names-on p e = rw (name-i, e)
-
     pub names-put : (f : Text → ℕ) (u : List ℕ) (v : ℕ) → v ≡ f (span_of text (get_or names i d))
         → sets (set u i v) (i + 1) (map f (drop (i + 1) (names_at text names))) ≡ sets u i (map f (drop i (names_at text names)))
     names-put f u v e = rw (name-i, add-one, e)
 
   no_more : length names ≤ i → drop i (names_at text names) ≡ []
   no_more h = drop_of_length-le ns {i = i} (rw (many text names) h)
-
-  pub names-done : (p : Text → Bool) → length names ≤ i → true ≡ all p (drop i (names_at text names))
-  names-done p h = rw (no_more h)
 
   pub names-stored : (f : Text → ℕ) (u : List ℕ) → length names ≤ i → u ≡ sets u i (map f (drop i (names_at text names)))
   names-stored f u h = rw (no_more h)

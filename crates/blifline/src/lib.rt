@@ -132,7 +132,7 @@ fn all_known(text: &[u8], signals: &[Span], s: &[u8], at: usize, k: usize) -> bo
 {
     let mut x = bliftext::word_from(s, at);
     for _i in 0..k {
-        if bliftext::place_of(text, signals, &s[x.start..x.end]) >= signals.len() {
+        if bliftext::place_of(text, signals, &s[x.start..x.end]).is_none() {
             return false;
         }
         x = bliftext::word_from(s, x.end);
@@ -151,7 +151,7 @@ fn own_known(text: &[u8], signals: &[Span], s: &[u8], at: usize, k: usize) -> bo
     if a == e {
         return false;
     }
-    bliftext::place_of(text, signals, &s[a..e]) < signals.len()
+    bliftext::place_of(text, signals, &s[a..e]).is_some()
 }
 
 // The tests of a `.names` line behind m blocks.
@@ -184,6 +184,14 @@ pub fn block_test(
     count_test(MOST_GATES, m + 1)
 }
 
+// The number of the signal that has the name; the number of all signals where none has it.
+fn signal_of(text: &[u8], signals: &[Span], w: &[u8]) -> u8
+    requires { Inside text.now signals.now × (length signals.now ≤ most_signals) }
+    ensures { result ≡ place_in (names_at text.now signals.now) w.now }
+{
+    bliftext::place_of(text, signals, w).unwrap_or(signals.len()) as u8
+}
+
 // The places of the first k words among the names, in the bytes from b on.
 pub fn fanins(
     text: &[u8],
@@ -200,7 +208,7 @@ pub fn fanins(
     let mut u = f;
     let mut x = bliftext::word_from(s, at);
     for i in 0..k {
-        u[b + i] = bliftext::place_of(text, signals, &s[x.start..x.end]) as u8;
+        u[b + i] = signal_of(text, signals, &s[x.start..x.end]);
         x = bliftext::word_from(s, x.end);
     }
     u
@@ -211,12 +219,7 @@ fn outputs_known(text: &[u8], signals: &[Span], outputs: &[Span]) -> bool
     requires { Inside text.now signals.now × Inside text.now outputs.now }
     ensures { result ≡ all (known (names_at text.now signals.now)) (names_at text.now outputs.now) }
 {
-    for o in outputs {
-        if bliftext::place_of(text, signals, &text[o.start..o.end]) >= signals.len() {
-            return false;
-        }
-    }
-    true
+    outputs.iter().all(|o| bliftext::place_of(text, signals, &text[o.start..o.end]).is_some())
 }
 
 // The tests of the `.end` line behind m blocks.
@@ -252,7 +255,7 @@ pub fn put_outputs(
 {
     let mut u = f;
     for (i, o) in outputs.iter().enumerate() {
-        u[i] = bliftext::place_of(text, signals, &text[o.start..o.end]) as u8;
+        u[i] = signal_of(text, signals, &text[o.start..o.end]);
     }
     u
 }

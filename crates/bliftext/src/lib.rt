@@ -4,9 +4,9 @@
 ghost use Rattle.std.specs.Prelude.{◌≡◌, Bool, true, not, ◌||◌, ℕ, ◌+◌, ◌≤◌, ◌<◌, length, drop};
 ghost use Rattle.text.specs.Words.{is_printing, before};
 ghost use Rattle.blif.specs.Text.{is_blank, fields};
-ghost use Rattle.blif.specs.Read.{place_in, known, repeats};
+ghost use Rattle.blif.specs.Read.{known, repeats};
 ghost use Rattle.blif.specs.Read as read;
-ghost use Rattle.bliftext.specs.Named.{names_at, Inside};
+ghost use Rattle.bliftext.specs.Named.{names_at, Inside, place_among};
 ghost use Rattle.bliftext.specs.Lines.{Computes, LineAt, NextOf};
 ghost use Rattle.bliftext.specs.Spans.{WordAt};
 
@@ -100,17 +100,14 @@ pub struct Span {
     pub end: usize,
 }
 
-// The place of a name among the names that stand at these places of the text; their number where it is none of them.
-pub fn place_of(text: &[u8], names: &[Span], w: &[u8]) -> usize
+// The place of a name among the names that stand at these places of the text; none where it is none of them.
+pub fn place_of(text: &[u8], names: &[Span], w: &[u8]) -> Option<usize>
     requires { Inside text.now names.now }
-    ensures { result ≡ place_in (names_at text.now names.now) w.now }
+    ensures { result ≡ place_among (names_at text.now names.now) w.now }
 {
-    for (i, name) in names.iter().enumerate() {
-        if &text[name.start..name.end] == w {
-            return i;
-        }
-    }
-    names.len()
+    names
+        .iter()
+        .position(|name| &text[name.start..name.end] == w)
 }
 
 // The first word from `at` on; none where no word is left.

@@ -1,36 +1,19 @@
 -- `blifline::outputs_known` meets its contract. Assumes nothing.
-use mathlib.Core.Path.{sym, ◌∙◌}
-use lib.ListN.{length, get_or}
-use borrow.Author.Tests.{lt-ltb, le-ltb}
-use Rattle.blif.specs.Read.{known}
+use mathlib.Core.Path.{◌∙◌}
+use borrow.Author.Rules.{rules}
+use borrow.Author.Tests.{tests}
+use Rattle.std.specs.Option.{is_some}
+use Rattle.std.proofs.lemmas.Iterator.{YieldsList-from_slice}
+use Rattle.std.proofs.lemmas.Iterator.Search.{all_from_yields_List}
 use Rattle.bliftext.specs.Spans.{span_of}
-use Rattle.bliftext.specs.Named.{names_at}
-use Rattle.blifline.proofs.Lists.{place-known, names-not, names-on, names-done}
+use Rattle.bliftext.specs.Named.{names_at, place_among}
+use Rattle.blifline.proofs.Lists.{all-among}
 use Rattle.blifline.proofs.outputs_known.Goals as goal
-
-pub returns-then-place_of-signals : goal.returns-then-place_of-signals
-returns-then-place_of-signals c =
-    let a = c.args in
-    let text = a.text.now in
-    let ns = names_at text a.signals.now in
-    let h = c.loop-o in
-    let p = c.place_of in
-    let k = place-known text a.signals.now (span_of text (get_or a.outputs.now h.o-index _)) p.result p.ensures in
-    names-not text a.outputs.now h.o-index _ c.loop-o-test.true (known ns) (sym k ∙ le-ltb p.result (length a.signals.now) c.if-place_of-signals.true) ∙ h.invariant
-
-pub loop-o-preserved : goal.loop-o-preserved
-loop-o-preserved c =
-    let a = c.args in
-    let text = a.text.now in
-    let ns = names_at text a.signals.now in
-    let h = c.loop-o in
-    let p = c.place_of in
-    let k = place-known text a.signals.now (span_of text (get_or a.outputs.now h.o-index _)) p.result p.ensures in
-    names-on text a.outputs.now h.o-index _ c.loop-o-test.true (known ns) (sym k ∙ lt-ltb p.result (length a.signals.now) c.if-place_of-signals.false) ∙ h.invariant
 
 pub returns : goal.returns
 returns c =
     let a = c.args in
     let text = a.text.now in
-    let h = c.loop-o in
-    names-done text a.outputs.now h.o-index (known (names_at text a.signals.now)) c.loop-o-test.false ∙ h.invariant
+    let ns = names_at text a.signals.now in
+    all_from_yields_List (λ o. is_some (place_among ns (span_of text o))) _ _ c.all.result c.all.ensures.ran (YieldsList-from_slice a.outputs.now cc) (λ x b q k. search (rules, tests))
+    ∙ all-among ns text a.outputs.now

@@ -16,5 +16,5 @@ returns c =
     let x = c.word_at-x in
     let v = span_of a.s.now x.result in
     let p = c.place_of in
-    place-known a.text.now a.signals.now v p.result p.ensures
+    c.is_some.ensures ∙ place-known a.text.now a.signals.now v p.result p.ensures
     ∙ last-known (known ns) a.s.now a.at a.k ws x.result c.requires.2 x.ensures c.if-a-e.false
