@@ -5,7 +5,7 @@ use Rattle.network.specs.Net.{Net, gate}
 use Rattle.network.specs.DontCares.{sdc, cdc, full}
 use Rattle.network.specs.Compatible.{free_fanins, compatible, open_table}
 use Rattle.network.specs.Flat.{loaded_net}
-use Rattle.network.specs.Load.{load_of}
+use Rattle.network.specs.Load.{session_of, load_of}
 use Rattle.network.specs.Write.{bytes_of}
 use Rattle.network.specs.Calls.{sdc_words}
 use Rattle.network.specs.Examples.{control_five, six_inputs, selector, or_six_bytes, or_six_session, or_six, five_inputs}
@@ -23,7 +23,7 @@ of_gate N s = sdc_of N s ++ cdc N s ∷ full N s ∷ open_table N s ∷ set_of N
 
 -- loaded and written
 abbrev pub OrSixFile : Type 0
-OrSixFile = (numbers (load_of or_six_bytes).session ≡ numbers or_six_session) × (bytes_of or_six_session ≡ or_six_bytes)
+OrSixFile = (numbers (session_of (load_of or_six_bytes)) ≡ numbers or_six_session) × (bytes_of or_six_session ≡ or_six_bytes)
 
 -- five of the copies may use that they are hidden, the last may not
 abbrev pub copies : List (List ℕ × List ℕ)
