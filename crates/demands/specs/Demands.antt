@@ -123,7 +123,7 @@ pub record Demand2 : Type 0 where
   -- harm is found exactly when some pattern that is not excluded changes an output with all of the list in place
   pub harmful : (s : Session) (rs : List Replacement) → Judged s rs
       → ((x : ℕ) × (i : ℕ) × (said (verdict_on s rs) ≡ 14 ∷ x ∷ i ∷ [])) ↔ ((x : ℕ) × (i : ℕ) × Changes s rs x i)
-  -- the pattern and the output that are shown: the smallest pattern and, there, the lowest output
+  -- the pattern and the output that are shown: of these patterns the quickest to set and, there, the lowest output
   pub shown : (s : Session) (rs : List Replacement) (x i : ℕ) → Judged s rs → (said (verdict_on s rs) ≡ 14 ∷ x ∷ i ∷ []) ↔ FirstHarm (loaded_net s) (all_in_place s rs) x i
   -- and else harmless
   pub harmless : (s : Session) (rs : List Replacement) → Judged s rs → (said (verdict_on s rs) ≡ []) ↔ NoHarm (loaded_net s) (all_in_place s rs) (patterns (loaded_net s))

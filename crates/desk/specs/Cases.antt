@@ -29,11 +29,19 @@ twin1_bytes = take 5 twin_bytes ++ 0x4E ∷ 0x58 ∷ 0x02 ∷ drop 5 twin_bytes
 abbrev pub twin1_session : Session
 twin1_session = held 1 3 1 (2 ∷ []) (1 ∷ 1 ∷ 2 ∷ []) (replicate 12 0 ++ 1 ∷ 2 ∷ []) (0x2 ∷ 0x2 ∷ 0xE ∷ []) (0x2 ∷ 0x2 ∷ 0xE ∷ []) (3 ∷ [])
 
+-- a gate with table 0 over three lines
+abbrev pub three_lines_bytes : List ℕ
+three_lines_bytes = 0x4E ∷ 0x49 ∷ 0x03 ∷ 0x01 ∷ 0x01 ∷ 0x4E ∷ 0x47 ∷ 0x03 ∷ 0x00 ∷ 0x01 ∷ 0x02 ∷ 0x00 ∷ 0x00 ∷ 0x4E ∷ 0x4F ∷ 0x03 ∷ []
+
+abbrev pub three_lines_session : Session
+three_lines_session = held 3 1 1 [] (3 ∷ []) (0 ∷ 1 ∷ 2 ∷ []) (0x0 ∷ []) (0x0 ∷ []) (3 ∷ [])
+
 -- the sessions are those of the files
 abbrev pub loads : List (List ℕ × List ℕ)
 loads =
     (said (load_of xor_bytes) ++ numbers (session_of (load_of xor_bytes)), numbers xor_session)
     ∷ (said (load_of twin1_bytes) ++ numbers (session_of (load_of twin1_bytes)), numbers twin1_session)
+    ∷ (said (load_of three_lines_bytes) ++ numbers (session_of (load_of three_lines_bytes)), numbers three_lines_session)
     ∷ []
 
 abbrev pub harmed : Text
@@ -53,6 +61,8 @@ answered =
     ∷ (asked xor_session (ascii " 1=1"), ascii "no: output 0 changes at pattern 0, lines on: none\ngate 1 from 0002 to 0001: entry 0 is closed\n")
     ∷ (asked xor_session (ascii " 1=1 2=1"), alone_line ++ ascii "gate 1 from 0002 to 0001: entry 0 is closed\ngate 2 from 0002 to 0001: entry 0 is closed\n")
     ∷ (asked twin1_session (ascii " 1=0 2=0"), open_line ++ ascii "gate 1 from 0002 to 0000: open\ngate 2 from 0002 to 0000: open\n")
+    -- one line on, before two
+    ∷ (asked three_lines_session (ascii " 3=18"), ascii "no: output 0 changes at pattern 4, lines on: 2\ngate 3 from 0000 to 0018: entry 3 is closed\n")
     -- a gate of six fan-ins on the board: sixteen digits at every gate
     ∷ (asked or_six_session (ascii " 7=ffffffff00000000"), open_line ++ ascii "gate 7 from fffffffffffffffe to ffffffff00000000: open\n")
     ∷ (asked or_six_session (ascii " 6=0"), alone_line ++ ascii "gate 6 from 0000000000000002 to 0000000000000000: entry 1 is closed\n")

@@ -56,6 +56,10 @@ pub alone : (a : Answer) → a ≡ first (a ∷ [])
 alone (Ok _) = refl
 alone (Err r) = refl
 
+pub or_else-assoc : (a b c : Answer) → or_else (or_else a b) c ≡ or_else a (or_else b c)
+or_else-assoc (Ok _) b c = refl
+or_else-assoc (Err r) b c = refl
+
 first-append : (xs ys : List Answer) → first (xs ++ ys) ≡ or_else (first xs) (first ys)
 first-append [] ys = refl
 first-append ((Ok _) ∷ xs) ys = first-append xs ys

@@ -17,3 +17,4 @@ pub mod Examples
 pub mod Cases
 pub mod ListCases
 pub mod RecordCases
+pub mod WeightCases

@@ -1,7 +1,7 @@
 -- Gate networks and the values of their signals: 01, 'The engine' and the first lines of 'The sets'. Assumes nothing.
 -- A truth value is a Bool. A pattern, a table, a set of entries is a number, read by its bits.
-use Rattle.std.specs.Prelude.{Bool, false, not, ◌&&◌, List, [], ◌∷◌, ◌++◌, map, ℕ, ◌+◌, ◌-◌, ◌/◌, ◌%◌, ◌^◌, leb, ltb, length, get_or, set}
-use Rattle.bits.specs.Range.{places, up_from}
+use Rattle.std.specs.Prelude.{Bool, false, not, ◌&&◌, List, [], ◌∷◌, ◌++◌, map, filter, ℕ, zero, suc, ◌+◌, ◌-◌, ◌/◌, ◌%◌, ◌^◌, eqb, leb, ltb, length, get_or, set}
+use Rattle.bits.specs.Range.{places, count, up_from}
 use Rattle.bits.specs.Bit.{bit, number}
 
 -- entry t of the table answers the fan-in values whose sum, fan-in r times 2^r, is t
@@ -52,9 +52,18 @@ excluded_for N i x = excluded N x
 unfoldable pub occurs : Net → ℕ → Bool
 occurs N x = not (excluded N x)
 
--- the patterns in the order in which a verdict tries them: by number
+-- the weight of the pattern x: how many of the n lines are on
+abbrev pub weight : (n x : ℕ) → ℕ
+weight n x = count n (bit x)
+
+-- the patterns of n lines with fewer than c on: by weight, and among equals by number
+abbrev pub by_weight : (n c : ℕ) → List ℕ
+by_weight n zero = []
+by_weight n (suc c) = by_weight n c ++ filter (λ x. eqb (weight n x) c) (up_from 0 (2 ^ n))
+
+-- request Six of 02: the patterns in the order in which a verdict tries them, fewest lines on first, the smaller number among equals
 unfoldable pub pattern_order : Net → List ℕ
-pattern_order N = up_from 0 (patterns N)
+pattern_order N = by_weight N.inputs (suc N.inputs)
 
 -- ## Values at a pattern
 

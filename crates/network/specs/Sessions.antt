@@ -1,12 +1,12 @@
 -- Lists of exchanges, and demand 3 as one claim about a session that a load gave and a list: 01, 'What about sequences?'. Assumes nothing.
-use Rattle.std.specs.Prelude.{◌≡◌, ◌≢◌, ◌↔◌, Bool, true, false, cond, List, [], ◌∷◌, ◌++◌, map, ℕ, suc, ◌+◌, ◌<◌, eqb, length, get_or}
+use Rattle.std.specs.Prelude.{◌≡◌, ◌≢◌, ◌⊎◌, ◌↔◌, Bool, true, false, cond, List, [], ◌∷◌, ◌++◌, map, ℕ, suc, ◌+◌, ◌<◌, eqb, length, get_or}
 use Rattle.bits.specs.Range.{places}
 use Rattle.bits.specs.Bit.{bit}
 use Rattle.network.specs.declared.Session.{Session}
 use Rattle.network.specs.Answer.{Answer, answer_of, given_or}
 use Rattle.std.specs.Prelude.{Ok, Err}
 use Rattle.network.specs.Bounds.{most_gates}
-use Rattle.network.specs.Net.{Net, is_gate, gate, entries, patterns, excluded_for, output, Replacement}
+use Rattle.network.specs.Net.{Net, is_gate, gate, entries, patterns, excluded_for, weight, output, Replacement}
 use Rattle.network.specs.DontCares.{full, harms}
 use Rattle.network.specs.Compatible.{closed, open_table}
 use Rattle.network.specs.Flat.{loaded_net, current_net}
@@ -97,12 +97,16 @@ Demand3Of = (bytes : List ℕ) (s : Session) (rs : List Replacement) → load_of
 abbrev pub NoHarm : Net → Net → ℕ → Type 0
 NoHarm L M n = (x i : ℕ) → x < n → i < length L.outputs → harms L M x i ≡ false
 
--- the smallest pattern that harms an output and, there, the lowest output
+-- the pattern y is quicker to set than x: fewer of the n lines are on, or as many and its number is smaller
+abbrev pub Quicker : (n y x : ℕ) → Type 0
+Quicker n y x = (weight n y < weight n x) ⊎ ((weight n y ≡ weight n x) × (y < x))
+
+-- the pattern that harms an output and is the quickest to set and, there, the lowest output
 pub record FirstHarm (L M : Net) (x i : ℕ) : Type 0 where
   pub pattern : x < patterns L
   pub output : i < length L.outputs
   pub harm : harms L M x i ≡ true
-  pub before : NoHarm L M x
+  pub before : (y j : ℕ) → y < patterns L → j < length L.outputs → Quicker L.inputs y x → harms L M y j ≡ false
   pub lower : (j : ℕ) → j < i → harms L M x j ≡ false
 
 -- ## Rule 4's second sentence, in every session that a load and exchanges give: a replacement at a gate, with a table that fits,

@@ -126,7 +126,7 @@ pub record Demand2Calls : Type 0 where
   -- harm is found exactly when some pattern that is not excluded changes an output with all of the list in place
   pub harmful : (ws : List ℕ) (rs : List Replacement) (out : List ℕ) → Asks ws rs → 2 ≤ length out
       → ((verdict_call_on ws rs out).number ≡ 14) ↔ ((x : ℕ) × (i : ℕ) × Changes (session_in ws) rs x i)
-  -- the smallest such pattern and, there, the lowest output are shown
+  -- of these patterns the quickest to set and, there, the lowest output are shown
   pub shown : (ws : List ℕ) (rs : List Replacement) (out : List ℕ) (x i : ℕ) → Asks ws rs → 2 ≤ length out
       → (verdict_call_on ws rs out ≡ record { number = 14; buffer = []; out = overwritten (x ∷ i ∷ []) out })
       ↔ FirstHarm (loaded_net (session_in ws)) (all_in_place (session_in ws) rs) x i

@@ -3,7 +3,7 @@ use mathlib.Core.Path.{◌≡◌, refl, sym, ap, ap₂, ◌∙◌}
 use mathlib.Core.Bool.{Bool, false, ◌&&◌}
 use mathlib.Core.Logic.{⊎_elim}
 use Prim.Native.Nat.{ℕ, zero, suc, ◌+◌, ◌-◌, ◌*◌, ◌^◌, ◌≤◌, ◌<◌}
-use native.Mathlib.Nat.{add-zero, zero-add}
+use native.Mathlib.Nat.{add-zero, zero-add, sub-zero}
 use native.Mathlib.Omega.{arith}
 use lib.Dec.{ltb}
 use borrow.Author.Tests.{lt-ltb, le-ltb}
@@ -12,12 +12,12 @@ use Rattle.std.specs.Prelude.{None}
 use Rattle.bits.specs.Range.{up_from, first_in, smallest}
 use Rattle.bits.specs.Cut.{Cut}
 use Rattle.bits.proofs.Search.{smallest-eq, smallest-ext, next}
-use Rattle.std.specs.Prelude.{Ok, Err}
+use Rattle.std.specs.Prelude.{Err}
 use Rattle.network.specs.Answer.{Answer, Done}
 use Rattle.network.specs.declared.Refusal.{Refusal}
 use Rattle.network.specs.Tests.{or_else}
 use Rattle.network.specs.Calls.{output_found, first_harm}
-use Rattle.network.proofs.TestLaws.{alone}
+use Rattle.network.proofs.TestLaws.{alone, or_else-assoc}
 use Rattle.verdict.specs.Changed.{word_harm}
 
 -- ## The loop over patterns, at x of those below a
@@ -54,6 +54,10 @@ search-ext h k p a (suc c) f =
     (smallest-ext p (h a) (k a) (λ i l. rw (add-zero a) at (f 0 (omega arith) i l)))
     (search-ext h k p (a + 1) c (λ e l i m. let q : a + 1 + e ≡ a + suc e = omega arith in rw q (f (suc e) (omega arith) i m)))
 
+-- of the numbers below c
+pub search-below : (h k : ℕ → ℕ → Bool) (p c : ℕ) → ((x : ℕ) → x < c → (i : ℕ) → i < p → h x i ≡ k x i) → first_harm h p (up_from 0 c) ≡ first_harm k p (up_from 0 c)
+search-below h k p c f = search-ext h k p 0 c (λ e l i m. f (0 + e) (omega arith) i m)
+
 pub search-none : (h : ℕ → ℕ → Bool) (p a c : ℕ) → ((e : ℕ) → e < c → (i : ℕ) → i < p → h (a + e) i ≡ false) → first_harm h p (up_from a c) ≡ Done
 search-none h p a c f = search-ext h (λ x i. false) p a c f ∙ go a c
   where
@@ -67,11 +71,7 @@ search-parts h p a zero d = ap₂ (λ (x y : ℕ). first_harm h p (up_from x y))
 search-parts h p a (suc c) d =
     let q : suc c + d ≡ suc (c + d) = omega arith in
     let s : a + 1 + c ≡ a + suc c = omega arith in
-    rw (q, search-parts h p (a + 1) c d, s) (either (output_found a (smallest p (h a))) (first_harm h p (up_from (a + 1) c)) (first_harm h p (up_from (a + suc c) d)))
-  where
-    either : (u b r : Answer) → or_else u (or_else b r) ≡ or_else (or_else u b) r
-    either (Ok _) b r = refl
-    either (Err f) b r = refl
+    rw (q, search-parts h p (a + 1) c d, s) (sym (or_else-assoc (output_found a (smallest p (h a))) (first_harm h p (up_from (a + 1) c)) (first_harm h p (up_from (a + suc c) d))))
 
 -- ## The loop over words, at w of W
 
@@ -83,11 +83,14 @@ left h p W w = first_harm h p (up_from (w * 64) (W * 64 - w * 64))
 abbrev pub below : ℕ → (ℕ → ℕ → Bool) → ℕ → ℕ → Bool
 below n h x i = ltb x n && h x i
 
+pub words-start : (h : ℕ → ℕ → Bool) (p W : ℕ) → left h p W 0 ≡ first_harm h p (up_from 0 (W * 64))
+words-start h p W = ap (λ (c : ℕ). first_harm h p (up_from 0 c)) (sub-zero (W * 64))
+
 -- places past the last pattern count for nothing
-pub words-start : {n W L : ℕ} (h : ℕ → ℕ → Bool) (p : ℕ) → Cut n W L → left (below (2 ^ n) h) p W 0 ≡ first_harm h p (up_from 0 (2 ^ n))
-words-start {n} {W} h p cut =
+pub words-below : {n W L : ℕ} (h : ℕ → ℕ → Bool) (p : ℕ) → Cut n W L → first_harm (below (2 ^ n) h) p (up_from 0 (W * 64)) ≡ first_harm h p (up_from 0 (2 ^ n))
+words-below {n} {W} h p cut =
     let big : 2 ^ n ≤ W * 64 = ⊎_elim (λ u. omega (arith, cut.places)) (λ u. omega arith) cut.whole in
-    let q : W * 64 - 0 * 64 ≡ 2 ^ n + (W * 64 - 2 ^ n) = omega arith in
+    let q : W * 64 ≡ 2 ^ n + (W * 64 - 2 ^ n) = omega arith in
     ap (λ (c : ℕ). first_harm (below (2 ^ n) h) p (up_from 0 c)) q ∙ search-parts (below (2 ^ n) h) p 0 (2 ^ n) (W * 64 - 2 ^ n)
     ∙ ap₂ or_else (search-ext (below (2 ^ n) h) h p 0 (2 ^ n) (λ e l i m. rw (lt-ltb (0 + e) (2 ^ n) (omega arith))))
     (search-none (below (2 ^ n) h) p (0 + 2 ^ n) (W * 64 - 2 ^ n) (λ e l i m. rw (le-ltb (0 + 2 ^ n + e) (2 ^ n) (omega arith))))

@@ -1,23 +1,23 @@
-// The calls: the search for harm. What other tables do: the first pattern, and there the lowest output, at which the loaded outputs change.
+// The calls: the search for harm. What other tables do: of the patterns that are not excluded and change a loaded output the one with the
+// fewest lines on, the smaller number among equals, and there the lowest output. How many lines are on is the pattern's weight.
 #![tactic(auto)]
 
-ghost use Rattle.std.specs.Prelude.{◌≡◌, ℕ, ◌+◌, ◌*◌, ◌<◌, ◌≤◌, get_or};
-ghost use Rattle.bits.specs.Bounds.{row_words};
+ghost use Rattle.std.specs.Prelude.{◌≡◌, ◌↔◌, IsTrue, All, ℕ, suc, ◌+◌, ◌*◌, ◌<◌, ◌≤◌, get_or};
+ghost use Rattle.bits.specs.Bounds.{most_inputs, row_words};
 ghost use Rattle.bits.specs.Range.{any};
 ghost use Rattle.bits.specs.Bit.{bit};
+ghost use Rattle.bits.specs.Cut.{Framed};
 ghost use Rattle.network.specs.Answer.{Done};
 ghost use Rattle.network.specs.Bounds.{most_outputs, most_signals};
-ghost use Rattle.network.specs.Flat.{net_of, net_with, loaded_net};
-ghost use Rattle.network.specs.Valid.{NetOk, OutputsOk};
+ghost use Rattle.network.specs.Flat.{net_with, loaded_net};
+ghost use Rattle.network.specs.Valid.{OutputsOk};
 ghost use Rattle.network.specs.State.{state_fault};
 ghost use Rattle.network.specs.Calls.{harm_test};
 ghost use Rattle.simulate.specs.Simulated.{words_at};
-ghost use Rattle.verdict.specs.Changed.{changed_word, changed_at, word_harm};
+ghost use Rattle.verdict.specs.Changed.{changed_word, changed_at, word_harm, weighted_at, Harmed, harmed_at, weight_harm, lightest_harm, rows_harm};
 
-use bits::ROW_WORDS;
-use network::{
-    EXCLUDED_WORDS, FANIN_PLACES, MOST_GATES, MOST_OUTPUTS, Refusal, SIGNAL_WORDS, Session,
-};
+use bits::{Frame, ROW_WORDS};
+use network::{EXCLUDED_WORDS, MOST_GATES, MOST_OUTPUTS, Refusal, SIGNAL_WORDS, Session};
 
 // Where output i has another value in word w of the rows xs than in ys.
 fn changed(
@@ -101,60 +101,122 @@ fn search(
     found
 }
 
-// The first harm in word w, where the whole word is asked first whether an output changes. A word without a pattern to judge is skipped.
-fn compare(
+// The first harm in word w at the patterns of weight c, of which `held` has those to look at. A word without one is not searched.
+fn word_harm(
     p: usize,
     outs: &[u8; MOST_OUTPUTS],
     xs: &[u64; SIGNAL_WORDS],
     ys: &[u64; SIGNAL_WORDS],
-    keep: u64,
+    held: u64,
+    c: usize,
     w: usize,
 ) -> Result<(), Refusal>
     requires outputs_ok { OutputsOk outs.now p most_signals }
     requires w_lt_row_words { w < row_words }
-    ensures { result ≡ word_harm (changed_at outs.now (words_at xs.now w) (words_at ys.now w) keep w) p w }
+    ensures { result ≡ word_harm (weighted_at outs.now (words_at xs.now w) (words_at ys.now w) held c w) p w }
 {
-    if keep == 0 {
+    if held == 0 {
         return Ok(());
     }
-    let d = changes(p, outs, xs, ys, w);
-    if keep & d == 0 {
+    let keep = held & bits::weight_word(c, w as u64);
+    if keep == 0 {
         return Ok(());
     }
     search(p, outs, xs, ys, keep, w)
 }
 
-// The first harm over all words. The second network is simulated only where it differs from the first. Places past the last pattern and excluded patterns are not judged.
-fn network_harm(
-    n: usize,
-    m: usize,
+// Of each word the harmed patterns: those at which some output changes. Places past the last pattern and excluded patterns are not judged.
+fn harm_words(
     p: usize,
     excluded: &[u64; EXCLUDED_WORDS],
-    arity: &[u8; MOST_GATES],
-    fanins: &[u8; FANIN_PLACES],
-    loaded: &[u64; MOST_GATES],
-    tables: &[u64; MOST_GATES],
     outs: &[u8; MOST_OUTPUTS],
-) -> Result<(), Refusal>
-    requires net_ok { NetOk arity.now fanins.now n m }
-    requires outputs_ok { OutputsOk outs.now p (n + m) }
-    ensures { result ≡ harm_test (net_of arity.now fanins.now loaded.now n m excluded.now outs.now p) (net_of arity.now fanins.now tables.now n m excluded.now outs.now p) }
+    xs: &[u64; SIGNAL_WORDS],
+    ys: &[u64; SIGNAL_WORDS],
+    live: u64,
+    count: usize,
+) -> [u64; ROW_WORDS]
+    requires outputs_ok { OutputsOk outs.now p most_signals }
+    requires few { count ≤ row_words }
+    ensures { Harmed p excluded.now outs.now xs.now ys.now live count result }
 {
-    let f = bits::frame_of(n);
-    let words = f.count;
-    let live = f.live;
-    let mut xs = [0u64; SIGNAL_WORDS];
-    simulate::rows(n, m, arity, fanins, loaded, words, &mut xs);
-    let mut ys = xs;
-    incremental::update(n, m, arity, fanins, loaded, tables, words, &mut ys);
-    for w in 0..words {
+    let mut harmed = [0u64; ROW_WORDS];
+    for w in 0..count {
         let keep = live & bits::complement(excluded[w]);
-        compare(p, outs, &xs, &ys, keep, w)?;
+        harmed[w] = keep & changes(p, outs, xs, ys, w);
+    }
+    harmed
+}
+
+// Whether no word has a harmed pattern.
+fn none(harmed: &[u64; ROW_WORDS]) -> bool
+    ensures { IsTrue result ↔ All (λ w. w ≡ 0) harmed.now }
+{
+    harmed.iter().all(|w| *w == 0)
+}
+
+// The first harm at the harmed patterns of weight c, word after word.
+fn weight_harm(
+    p: usize,
+    outs: &[u8; MOST_OUTPUTS],
+    xs: &[u64; SIGNAL_WORDS],
+    ys: &[u64; SIGNAL_WORDS],
+    harmed: &[u64; ROW_WORDS],
+    count: usize,
+    c: usize,
+) -> Result<(), Refusal>
+    requires outputs_ok { OutputsOk outs.now p most_signals }
+    requires few { count ≤ row_words }
+    ensures { result ≡ weight_harm (harmed_at harmed.now outs.now xs.now ys.now) p count c }
+{
+    for w in 0..count {
+        word_harm(p, outs, xs, ys, harmed[w], c, w)?;
     }
     Ok(())
 }
 
-// The harm that the session's network does with these tables.
+// The first harm by weight, from no line on up to all n.
+fn lightest_harm(
+    n: usize,
+    p: usize,
+    outs: &[u8; MOST_OUTPUTS],
+    xs: &[u64; SIGNAL_WORDS],
+    ys: &[u64; SIGNAL_WORDS],
+    harmed: &[u64; ROW_WORDS],
+    count: usize,
+) -> Result<(), Refusal>
+    requires outputs_ok { OutputsOk outs.now p most_signals }
+    requires few { (n ≤ most_inputs) × (count ≤ row_words) }
+    ensures { result ≡ lightest_harm (harmed_at harmed.now outs.now xs.now ys.now) p count (suc n) }
+{
+    for c in 0..=n {
+        weight_harm(p, outs, xs, ys, harmed, count, c)?;
+    }
+    Ok(())
+}
+
+// The first harm that the rows tell. Where no pattern is harmed, no weight is tried.
+fn rows_harm(
+    n: usize,
+    p: usize,
+    excluded: &[u64; EXCLUDED_WORDS],
+    outs: &[u8; MOST_OUTPUTS],
+    xs: &[u64; SIGNAL_WORDS],
+    ys: &[u64; SIGNAL_WORDS],
+    f: Frame,
+) -> Result<(), Refusal>
+    requires outputs_ok { OutputsOk outs.now p most_signals }
+    requires framed { (n ≤ most_inputs) × Framed n f.count f.live }
+    ensures { result ≡ rows_harm n p excluded.now outs.now xs.now ys.now }
+{
+    let count = f.count;
+    let harmed = harm_words(p, excluded, outs, xs, ys, f.live, count);
+    if none(&harmed) {
+        return Ok(());
+    }
+    lightest_harm(n, p, outs, xs, ys, &harmed, count)
+}
+
+// The harm that the session's network does with these tables. It is simulated only where it differs from the loaded one.
 pub fn harm(s: Session, tables: [u64; MOST_GATES]) -> Result<(), Refusal>
     requires { state_fault s ≡ Done }
     ensures { result ≡ harm_test (loaded_net s) (net_with s tables) }
@@ -167,5 +229,11 @@ pub fn harm(s: Session, tables: [u64; MOST_GATES]) -> Result<(), Refusal>
     let fanins = s.fanins;
     let loaded = s.loaded;
     let outs = s.outputs;
-    network_harm(n, m, p, &excluded, &arity, &fanins, &loaded, &tables, &outs)
+    let f = bits::frame_of(n);
+    let count = f.count;
+    let mut xs = [0u64; SIGNAL_WORDS];
+    simulate::rows(n, m, &arity, &fanins, &loaded, count, &mut xs);
+    let mut ys = xs;
+    incremental::update(n, m, &arity, &fanins, &loaded, &tables, count, &mut ys);
+    rows_harm(n, p, &excluded, &outs, &xs, &ys, f)
 }

@@ -1,0 +1,19 @@
+-- The cases of specs/Cases.antt hold, by computation. Assumes nothing.
+use mathlib.Core.Path.{refl}
+use Prim.Native.Nat.{ℕ}
+use Rattle.bits.specs.Bit.{bit}
+use Rattle.bits.specs.Lists.{Hold}
+use Rattle.network.specs.Net.{is_gate, excluded, excluded_for, occurs, pattern_order, entry, values}
+use Rattle.network.specs.DontCares.{sdc, cdc, values_inverted, odc, full, harms}
+use Rattle.network.specs.Compatible.{agree, constant, turns, free_fanins, at_outputs, compatible_from, compatible, compatible_count, delivers, closed, open_table, open_tables}
+use Rattle.network.specs.Flat.{gate_at, gates_of, net_of, loaded_net, current_net}
+use Rattle.network.specs.Tests.{mark_test, fanin_test, fanins_test, excluded_test}
+use Rattle.network.specs.State.{gate_fault, state_fault, state_test}
+use Rattle.network.specs.Load.{output_record, read_outputs, gate_record, read_gates, excluded_record, read_body, header_record, read_of, load_of}
+use Rattle.network.specs.Write.{header_bytes, excluded_bytes, gate_bytes, output_bytes, bytes_of}
+use Rattle.network.specs.Calls.{gate_test, table_test, alters, closed_test, harm_test, exchange_answer, exchange_of, lengths_test, pair_test, verdict_of}
+use Rattle.setcases.specs.Cases.{worked, head_lines, never_given, two_words, multi_output}
+
+pub cases-hold : Hold worked × ((t : ℕ) → Hold (head_lines t)) × Hold never_given × Hold two_words × Hold multi_output
+unfolding bit is_gate excluded excluded_for occurs pattern_order entry values sdc cdc values_inverted odc full harms agree constant turns free_fanins at_outputs compatible_from compatible compatible_count delivers closed open_table open_tables gate_at gates_of net_of loaded_net current_net mark_test fanin_test fanins_test excluded_test gate_fault state_fault state_test output_record read_outputs gate_record read_gates excluded_record read_body header_record read_of load_of header_bytes excluded_bytes gate_bytes output_bytes bytes_of gate_test table_test alters closed_test harm_test exchange_answer exchange_of lengths_test pair_test verdict_of
+cases-hold = (refl, λ t. refl, refl, refl, refl)
