@@ -175,6 +175,25 @@ static void harmful(Case *c) { ask(c, c->sets.full, 0); }
 static void allowed(Case *c) { ask(c, c->sets.open, 1); }
 static void closed(Case *c) { ask(c, c->sets.open, 0); }
 
+/* where a pattern stands by weight and then by number */
+static int place(int x) { return __builtin_popcount((unsigned)x) << INPUTS | x; }
+
+/* of all alterations of one entry of one gate, the first whose harm comes latest */
+static void harm_late(Case *c) {
+    int latest = -1;
+    c->replaced = c->loaded;
+    for (int g = 0; g < c->loaded.m; g++)
+        for (int t = 0; t < 1 << c->loaded.arity[g]; t++) {
+            c->replaced.tables[g] = c->loaded.tables[g] ^ BIT(t);
+            Answer a = TUNED.verdict(&c->loaded, &c->replaced);
+            c->replaced.tables[g] = c->loaded.tables[g];
+            if (!a.number || place(a.first) <= latest) continue;
+            latest = place(a.first);
+            c->asked.gates_len = c->asked.tables_len = 0;
+            put_pair(c, g, BIT(t));
+        }
+}
+
 /* random open entries of so many gates, those that have some first */
 static void ask_open(Case *c, int count) {
     for (int has = 1; has >= 0; has--)
@@ -204,6 +223,7 @@ static const Task TASKS[] = {
     {"pattern sets: words of ODC and compatible sets", 0, any, our_sets, base_sets},
     {"verdict, harmless", 0, harmless, our_verdict, base_verdict},
     {"verdict, harmful", 14, harmful, our_verdict, base_verdict},
+    {"verdict, harm late", 14, harm_late, our_verdict, base_verdict},
     {"verdict on 8 gates, harmless", 0, eight_open, our_verdict, base_verdict},
     {"verdict on all gates, harmless", 0, all_open, our_verdict, base_verdict},
     {"verdict on all gates, harmful", 14, all_altered, our_verdict, base_verdict},

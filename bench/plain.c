@@ -90,15 +90,30 @@ static void compatible(const Network *net, Sets *sets) {
     }
 }
 
+/* the lowest output that changes at pattern x, or -1 */
+static int lowest_output(const Network *loaded, const Network *replaced, int x) {
+    uint8_t a[SIGNALS], b[SIGNALS];
+    simulate(loaded, x, -1, a);
+    simulate(replaced, x, -1, b);
+    for (int i = 0; i < loaded->p; i++)
+        if (a[loaded->outputs[i]] != b[loaded->outputs[i]]) return i;
+    return -1;
+}
+
+/* the next larger number of the same weight; of 0 there is none, and the result is past all patterns */
+static int next_of_weight(int x) {
+    if (!x) return 1 << INPUTS;
+    int up = x + (x & -x);
+    return up | (x ^ up) >> (__builtin_ctz((unsigned)x) + 2);
+}
+
+/* the first harm, by weight and then by number */
 static Answer verdict(const Network *loaded, const Network *replaced) {
-    for (int x = 0; x < 1 << loaded->n; x++) {
-        if (excluded(loaded, x)) continue;
-        uint8_t a[SIGNALS], b[SIGNALS];
-        simulate(loaded, x, -1, a);
-        simulate(replaced, x, -1, b);
-        for (int i = 0; i < loaded->p; i++)
-            if (a[loaded->outputs[i]] != b[loaded->outputs[i]]) return (Answer){14, x, i};
-    }
+    for (int weight = 0; weight <= loaded->n; weight++)
+        for (int x = (1 << weight) - 1; x < 1 << loaded->n; x = next_of_weight(x)) {
+            int i = excluded(loaded, x) ? -1 : lowest_output(loaded, replaced, x);
+            if (i >= 0) return (Answer){14, x, i};
+        }
     return (Answer){0, 0, 0};
 }
 

@@ -287,33 +287,50 @@ static void compatible(const Network *net, Sets *sets) {
     }
 }
 
-/* the lowest output that changes at place x of word w, where one does */
-static int lowest_output(const Network *net, const Row *rows, const Row *other, uint64_t changed, int w, int x) {
+/* place b of word i is set in WEIGHT[j] where j of the seven bits of 64 i + b are */
+static const Pair WEIGHT[8] = {{0x0000000000000001, 0x0000000000000000}, {0x0000000100010116, 0x0000000000000001},
+                               {0x0001011601161668, 0x0000000100010116}, {0x0116166816686880, 0x0001011601161668},
+                               {0x1668688068808000, 0x0116166816686880}, {0x6880800080000000, 0x1668688068808000},
+                               {0x8000000000000000, 0x6880800080000000}, {0x0000000000000000, 0x8000000000000000}};
+
+/* the lightest pattern of a set that has some, the smaller number among equals */
+static int lightest(const Pair *set, int pairs) {
+    static const int ONES[WORDS / 2] = {0, 1, 1, 2, 1, 2, 2, 3};
+    int least = INPUTS + 1, x = 0;
+    for (int w = 0; w < pairs; w++) {
+        if (!some(set[w])) continue;
+        for (int j = 0; j < 8 && ONES[w] + j < least; j++) {
+            Pair found = set[w] & WEIGHT[j];
+            if (some(found)) least = ONES[w] + j, x = 128 * w + (found[0] ? __builtin_ctzll(found[0]) : 64 + __builtin_ctzll(found[1]));
+        }
+    }
+    return x;
+}
+
+/* the lowest output that changes at pattern x, where one does */
+static int lowest_output(const Network *net, const Row *rows, const Row *other, uint64_t changed, int x) {
     for (int i = 0; i < net->p; i++) {
         int s = net->outputs[i];
-        if (changed >> s & 1 && (word(rows[s], w) ^ word(other[s], w)) >> x & 1) return i;
+        if (changed >> s & 1 && (word(rows[s], x / 64) ^ word(other[s], x / 64)) >> x % 64 & 1) return i;
     }
     return net->p;
 }
 
-/* the first harm: the replaced network is simulated only at gates with another table or a changed fan-in */
+/* the lightest harm: the replaced network is simulated only at gates with another table or a changed fan-in */
 static Answer verdict(const Network *loaded, const Network *replaced) {
-    Row rows[SIGNALS], other[SIGNALS], seen;
+    Row rows[SIGNALS], other[SIGNALS], harm;
     uint64_t masks[GATES], changed = 0;
     int pairs = pair_count(loaded->n);
     simulate(loaded, rows);
     fanin_masks(loaded, masks);
     for (int g = 0; g < loaded->m; g++)
         if (loaded->tables[g] != replaced->tables[g] || masks[g] & changed) changed |= again(replaced, g, rows, changed, pairs, other);
-    changes(loaded, rows, other, changed, pairs, seen);
-    for (int w = 0; w < word_count(loaded->n); w++) {
-        uint64_t harm = word(seen, w) & live_places(loaded->n) & ~loaded->excluded[w];
-        if (harm) {
-            int x = __builtin_ctzll(harm);
-            return (Answer){14, 64 * w + x, lowest_output(loaded, rows, other, changed, w, x)};
-        }
-    }
-    return (Answer){0, 0, 0};
+    changes(loaded, rows, other, changed, pairs, harm);
+    Pair any = both(0);
+    for (int w = 0; w < pairs; w++) any |= harm[w] &= live_pair(loaded->n) & ~excluded_pair(loaded, w);
+    if (!some(any)) return (Answer){0, 0, 0};
+    int x = lightest(harm, pairs);
+    return (Answer){14, x, lowest_output(loaded, rows, other, changed, x)};
 }
 
 const Baseline TUNED = {dont_cares, compatible, verdict};

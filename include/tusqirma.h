@@ -70,7 +70,8 @@ enum tusqirma_refusal {
     TUSQIRMA_NOT_A_GATE = 11,       /* no gate has that signal number */
     TUSQIRMA_TABLE_TOO_WIDE = 12,   /* the table has a bit at or past 2^k */
     TUSQIRMA_CLOSED_ENTRY = 13,     /* exchange: alters a closed entry of the loaded table; out[0]: the smallest */
-    TUSQIRMA_HARM = 14,             /* verdict: an output changes; out[0]: the smallest pattern, out[1]: there, the lowest output */
+    TUSQIRMA_HARM = 14,             /* verdict: an output changes; out[0]: the pattern with the fewest ones, the
+                                       smaller number among equals; out[1]: there, the lowest output */
     TUSQIRMA_LISTS_UNEQUAL = 15,    /* verdict: lists of unequal length */
     TUSQIRMA_GATE_REPEATED = 16,    /* verdict: a gate named a second time */
     /* the BLIF text */
@@ -168,9 +169,10 @@ uint64_t tusqirma_hidden(const uint64_t *session, size_t session_len, uint64_t *
 /*
  * Judges the current network with the tables of some gates replaced, all of them at once, against the loaded network's
  * outputs. Gate gates[i] gets table tables[i]; the gates may stand in any order, none twice. Returns 0 where no pattern
- * that is not excluded changes an output; otherwise 14, with the smallest such pattern in out[0] and its lowest changed
- * output (0 to p-1) in out[1]. `out` has 2 words, and keeps them in every other outcome. The session stays. NULL with
- * length 0 serves for an empty list, on which the current network is judged as it stands.
+ * that is not excluded changes an output; otherwise 14, with the one of these patterns that has the fewest inputs at 1,
+ * the smaller number among equals, in out[0] and its lowest changed output (0 to p-1) in out[1]. `out` has 2 words, and
+ * keeps them in every other outcome. The session stays. NULL with length 0 serves for an empty list, on which the current
+ * network is judged as it stands.
  * Refusals 9, 10, 15 where the lists are of unequal length, then of the first pair at fault 11, 16 where an earlier pair
  * names its gate, or 12; then 14.
  */

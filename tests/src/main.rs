@@ -29,6 +29,7 @@ mod short;
 mod stack;
 mod states;
 mod users;
+mod weights;
 mod wide;
 
 use report::Report;
@@ -64,6 +65,10 @@ fn main() {
     report.part("stack", |r| stack::compare(r, seed));
     report.part("networks", |r| networks::compare(r, seed, count));
     report.part("sessions", |r| sessions::compare(r, seed, count));
+    report.part("stated patterns by weight", weights::stated);
+    report.part("patterns named by weight", |r| {
+        weights::compare(r, seed, count.max(3000))
+    });
     report.part("states made by hand", |r| states::compare(r, seed, count));
     report.part("stated BLIF texts", blif::texts_stated);
     report.part("stated BLIF out", blif::written_stated);

@@ -15,6 +15,6 @@ pub use blif::{outgoing, read_blif, write_blif};
 pub use calls::call;
 pub use file::{load, write};
 pub use listing::listing;
-pub use network::{all_entries, bit, Network};
+pub use network::{all_entries, bit, weight, Network};
 pub use order::{answer, pairs, REASONS, USAGE};
 pub use state::*;

@@ -2,7 +2,7 @@
 
 use crate::call::{Call, Lent, Way};
 use crate::reference;
-use std::collections::{BTreeMap, BTreeSet};
+use std::collections::BTreeMap;
 use std::sync::atomic::{AtomicUsize, Ordering};
 use std::thread;
 use std::time::Instant;
@@ -14,7 +14,8 @@ pub struct Report {
     pub failed: u64,
     smallest: Option<(usize, String)>,
     met: BTreeMap<u64, u64>,
-    seen: BTreeSet<String>,
+    seen: BTreeMap<String, u64>,
+    notes: Vec<String>,
 }
 
 impl Report {
@@ -25,7 +26,7 @@ impl Report {
         }
     }
 
-    /// Runs one part, and prints its counts, its answers and its smallest failed case.
+    /// Runs one part, and prints its counts, its answers, its notes and its smallest failed case.
     pub fn part(&mut self, name: &'static str, compare: impl FnOnce(&mut Report)) {
         let began = Instant::now();
         let mut part = Report::of(name);
@@ -37,6 +38,7 @@ impl Report {
         if !met.is_empty() {
             println!("    answers {}", met.join(", "));
         }
+        part.notes.iter().for_each(|note| println!("    {note}"));
         if let Some((_, text)) = &part.smallest {
             println!("smallest failed case of {name}:\n{text}");
         }
@@ -71,7 +73,9 @@ impl Report {
         for (answer, count) in other.met {
             *self.met.entry(answer).or_default() += count;
         }
-        self.seen.extend(other.seen);
+        for (what, count) in other.seen {
+            *self.seen.entry(what).or_default() += count;
+        }
     }
 
     pub fn name(&self) -> &'static str {
@@ -101,7 +105,13 @@ impl Report {
 
     /// Notes that a case was of this kind.
     pub fn see(&mut self, what: impl Into<String>) {
-        self.seen.insert(what.into());
+        *self.seen.entry(what.into()).or_default() += 1;
+    }
+
+    /// Has it printed how many cases were of this kind.
+    pub fn note_seen(&mut self, what: &str) {
+        let count = self.seen.get(what).unwrap_or(&0);
+        self.notes.push(format!("{what}: {count}"));
     }
 
     /// Notes how many gates a verdict was on, and its answer.
@@ -120,7 +130,7 @@ impl Report {
 
     /// Some case has to have been of this kind, so that it cannot pass unseen.
     pub fn require_seen(&mut self, what: &str) {
-        self.require(what, self.seen.contains(what));
+        self.require(what, self.seen.contains_key(what));
     }
 
     /// What has to have been met in this part.

@@ -135,7 +135,13 @@ pub fn compare(report: &mut Report) {
 }
 
 /// A call on a session has this answer, and leaves these words at the start of `out`.
-fn answered(report: &mut Report, case: &Case, call: &Call, session: &[u64], due: (u64, &[u64])) {
+pub fn answered(
+    report: &mut Report,
+    case: &Case,
+    call: &Call,
+    session: &[u64],
+    due: (u64, &[u64]),
+) {
     let lent = Lent::session(call, session);
     let (number, after) = report.compare(&[RAW, BINDING], call, &lent, case);
     let got = (number, &after.out[..due.1.len()]);

@@ -4,6 +4,7 @@ use super::{command, compare, due, shown, word, words, Files, Folder, Outcome, W
 use crate::files::{twin_but, twin_to, TWIN};
 use crate::reference::{REASONS, USAGE};
 use crate::report::{Case, Report};
+use crate::weights::THREE;
 
 pub const OPEN: &str = "yes: open, also together with any other order open on this board\n";
 pub const ALONE: &str = "yes: alone, with no other order; ask the next on the changed board\n";
@@ -26,7 +27,7 @@ pub fn named<const N: usize>(files: [(&str, Vec<u8>); N]) -> Files {
     files.map(|(name, bytes)| (name.to_string(), bytes)).into()
 }
 
-/// The twin, the twin with gate 3 an exclusive or, the twin with pattern 1 excluded, and the example.
+/// The twin, the twin with gate 3 an exclusive or, the twin with pattern 1 excluded, one gate over three lines, and the example.
 pub fn boards() -> Files {
     let board = include_bytes!("../../../examples/board.net");
     named([
@@ -36,6 +37,7 @@ pub fn boards() -> Files {
             "twin-1",
             [&TWIN[..5], &[0x4E, 0x58, 2], &TWIN[5..]].concat(),
         ),
+        ("three", THREE.to_vec()),
         ("board", board.to_vec()),
     ])
 }
@@ -66,6 +68,7 @@ pub fn stated(report: &mut Report) {
     files.extend(refused_files());
     let mut desk = Desk::new(report, files);
     desk.answers();
+    desk.weights();
     desk.refusals();
     desk.no_pairs();
     desk.no_answers();
@@ -145,6 +148,21 @@ impl Desk<'_> {
         self.answered("board", &["\t14=0\r\n", "", " 22=0 "], example);
         let typed = example.replace("gate 14", "gate 0014");
         self.answered("board", &["0014=0000", "22=0000000000000000"], &typed);
+    }
+
+    /// The pattern with the fewest lines on, and the smaller number of two with as many.
+    fn weights(&mut self) {
+        for (table, pattern, lines, entry) in [
+            ("18", 4, "2", 3),
+            ("28", 3, "0 1", 3),
+            ("60", 5, "0 2", 5),
+            ("81", 0, "none", 0),
+        ] {
+            let first = format!("no: output 0 changes at pattern {pattern}, lines on: {lines}\n");
+            let pair = format!("gate 3 from 0000 to 00{table}: entry {entry} is closed\n");
+            let order = format!("3={table}");
+            self.answered("three", &[&order], &(first + &pair));
+        }
     }
 
     fn refusals(&mut self) {

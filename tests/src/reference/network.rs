@@ -24,6 +24,11 @@ pub fn fits(table: u64, k: usize) -> bool {
     table & !all_entries(k) == 0
 }
 
+/// The weight of a pattern: how many of its lines are on.
+pub fn weight(x: usize) -> u32 {
+    x.count_ones()
+}
+
 /// A set of patterns as words of 64, the spare bits zero.
 pub fn words_of(set: &[bool]) -> Vec<u64> {
     let word = |part: &[bool]| {
@@ -74,14 +79,16 @@ impl Network {
         self.outputs.iter().map(|&s| values[s]).collect()
     }
 
-    /// The smallest pattern not excluded at which an output of the other network differs, and the lowest such output.
+    /// Of the patterns not excluded at which an output of the other network differs, the one of the least weight, the smaller number
+    /// among equals; and the lowest output that differs there.
     pub fn harm(&self, other: &Network) -> Option<(usize, usize)> {
         let lowest = |x: usize| {
             let (a, b) = (self.outputs_at(x, None), other.outputs_at(x, None));
             let i = (0..a.len()).find(|&i| a[i] != b[i]);
             i.map(|i| (x, i))
         };
-        let mut patterns = (0..self.patterns()).filter(|&x| !self.excluded[x]);
-        patterns.find_map(lowest)
+        let patterns = (0..self.patterns()).filter(|&x| !self.excluded[x]);
+        let harmed = patterns.filter_map(lowest);
+        harmed.min_by_key(|&(x, _)| (weight(x), x))
     }
 }
