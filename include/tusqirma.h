@@ -70,8 +70,9 @@ enum tusqirma_refusal {
     TUSQIRMA_NOT_A_GATE = 11,       /* no gate has that signal number */
     TUSQIRMA_TABLE_TOO_WIDE = 12,   /* the table has a bit at or past 2^k */
     TUSQIRMA_CLOSED_ENTRY = 13,     /* exchange: alters a closed entry of the loaded table; out[0]: the smallest */
-    TUSQIRMA_HARM = 14,             /* verdict: an output changes; out[0]: the pattern with the fewest ones, the
-                                       smaller number among equals; out[1]: there, the lowest output */
+    TUSQIRMA_HARM = 14,             /* verdict: an output changes; out[0]: of the patterns not excluded that change one
+                                       the one with the fewest ones, the smaller number among equals; out[1]: there,
+                                       the lowest output */
     TUSQIRMA_LISTS_UNEQUAL = 15,    /* verdict: lists of unequal length */
     TUSQIRMA_GATE_REPEATED = 16,    /* verdict: a gate named a second time */
     /* the BLIF text */

@@ -38,7 +38,7 @@ pub enum Refusal {
     },
     /// 14: a verdict finds that an output changes.
     Harm {
-        /// Of the patterns that change one, the one with the fewest ones, the smaller number among equals.
+        /// Of the patterns not excluded that change one, the one with the fewest ones, the smaller number among equals.
         pattern: u64,
         /// There, the lowest changed output number.
         output: u64,
