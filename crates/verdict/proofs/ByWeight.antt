@@ -19,14 +19,14 @@ use Rattle.network.specs.Net.{weight, by_weight}
 use Rattle.network.specs.Tests.{or_else}
 use Rattle.network.specs.Calls.{first_harm}
 use Rattle.network.proofs.Harm.{narrowed, harm-weight}
-use Rattle.verdict.specs.Changed.{of_weight, weight_harm, lightest_harm}
+use Rattle.verdict.specs.Changed.{of_weight, at_weight, weight_harm, lightest_harm}
 use Rattle.verdict.proofs.Turns.{left, below, search-below, search-none, words-start, words-below}
 
 -- ## The loop over the words of one weight, at its start
 
-pub weight-start : (h : ℕ → ℕ → Bool) (p W c : ℕ) → left (λ x i. of_weight c x && h x i) p W 0 ≡ weight_harm h p W c
+pub weight-start : (h : ℕ → ℕ → Bool) (p W c : ℕ) → left (at_weight c h) p W 0 ≡ weight_harm h p W c
 unfolding weight_harm
-weight-start h p W c = words-start (λ x i. of_weight c x && h x i) p W
+weight-start h p W c = words-start (at_weight c h) p W
 
 -- ## The loop over weights, at c
 
@@ -54,14 +54,14 @@ unfolding weight_harm
 light-ext h k p W f zero = refl
 light-ext h k p W f (suc c) =
     ap₂ or_else (light-ext h k p W f c)
-    (search-below (λ x i. of_weight c x && h x i) (λ x i. of_weight c x && k x i) p (W * 64) (λ x l i m. ap (λ (b : Bool). of_weight c x && b) (f x l i m)))
+    (search-below (at_weight c h) (at_weight c k) p (W * 64) (λ x l i m. ap (λ (b : Bool). of_weight c x && b) (f x l i m)))
 
 pub light-none : (h : ℕ → ℕ → Bool) (p W : ℕ) → ((x : ℕ) → x < W * 64 → (i : ℕ) → i < p → h x i ≡ false) → (c : ℕ) → lightest_harm h p W c ≡ Done
 unfolding weight_harm
 light-none h p W f zero = refl
 light-none h p W f (suc c) =
     ap₂ or_else (light-none h p W f c)
-    (search-none (λ x i. of_weight c x && h x i) p 0 (W * 64) (λ e l i m. and-not (of_weight c (0 + e)) (h (0 + e) i) (λ o t. clash t (f (0 + e) (omega arith) i m))))
+    (search-none (at_weight c h) p 0 (W * 64) (λ e l i m. and-not (of_weight c (0 + e)) (h (0 + e) i) (λ o t. clash t (f (0 + e) (omega arith) i m))))
 
 -- the places that are patterns, by weight
 pub light-order : {n W L : ℕ} (h : ℕ → ℕ → Bool) (p : ℕ) → n ≤ most_inputs → Cut n W L → (c : ℕ) → lightest_harm (below (2 ^ n) h) p W c ≡ first_harm h p (by_weight n c)
@@ -69,7 +69,7 @@ unfolding weight_harm of_weight
 light-order h p most cut zero = refl
 light-order {n} {W} h p most cut (suc c) =
     ap₂ or_else (light-order h p most cut c)
-    (search-below (λ x i. of_weight c x && below (2 ^ n) h x i) (below (2 ^ n) (narrowed (λ x. eqb (weight n x) c) h)) p (W * 64)
+    (search-below (at_weight c (below (2 ^ n) h)) (below (2 ^ n) (narrowed (λ x. eqb (weight n x) c) h)) p (W * 64)
     (λ x l i m. by_cases (ltb x (2 ^ n))
     (λ e. let k : x < 2 ^ n = ltb-true x (2 ^ n) e in
     rw e (ap (λ (w : ℕ). eqb w c && h x i) (ones-same most_inputs n x (omega (arith, pow_mono {j = most_inputs} most)) k)))

@@ -30,7 +30,7 @@ use Rattle.network.specs.DontCares.{harms}
 use Rattle.network.specs.Calls.{first_harm, harm_test}
 use Rattle.network.proofs.Valid.{net-ok, outputs-ok}
 use Rattle.simulate.specs.Simulated.{Simulated, words_at, Rows}
-use Rattle.verdict.specs.Changed.{changed_word, changed_at, word_harm, judged_at, harmed_at, Harmed, of_weight, weighted_at, lightest_harm, rows_harm}
+use Rattle.verdict.specs.Changed.{changed_word, changed_at, word_harm, judged_at, harmed_at, Harmed, of_weight, at_weight, lightest_harm, rows_harm}
 use Rattle.verdict.proofs.Turns.{search-ext, search-none, below}
 use Rattle.verdict.proofs.ByWeight.{light-ext, light-none, light-order, order-ext}
 
@@ -49,19 +49,19 @@ pub no-keep : (outs xs ys : List ℕ) (p keep w : ℕ) → keep ≡ 0 → Done �
 unfolding word_harm changed_at
 no-keep outs xs ys p keep w e = sym (search-none (changed_at outs xs ys keep w) p (w * 64) 64 (λ b l i m. rw (e, bit-and, bit-zero)))
 
-pub no-held : (outs xs ys : List ℕ) (p held c w : ℕ) → held ≡ 0 → Done ≡ word_harm (weighted_at outs xs ys held c w) p w
+pub no-held : (outs xs ys : List ℕ) (p held c w : ℕ) → held ≡ 0 → Done ≡ word_harm (at_weight c (changed_at outs xs ys held w)) p w
 unfolding word_harm changed_at
 no-held outs xs ys p held c w e =
-    sym (search-none (weighted_at outs xs ys held c w) p (w * 64) 64 (λ b l i m.
+    sym (search-none (at_weight c (changed_at outs xs ys held w)) p (w * 64) 64 (λ b l i m.
     and-not (of_weight c (w * 64 + b)) (changed_at outs xs ys held w (w * 64 + b) i) (λ o t. clash t (rw (e, bit-and, bit-zero)))))
 
 -- where v has the places of that weight
 pub word-weight : (outs xs ys : List ℕ) (p held c w v : ℕ) → w < row_words
     → ((n b : ℕ) → b < 64 → w * 64 + b < 2 ^ n → bit v b ≡ eqb (count n (bit (w * 64 + b))) c)
-    → word_harm (changed_at outs xs ys (bit_and held v) w) p w ≡ word_harm (weighted_at outs xs ys held c w) p w
+    → word_harm (changed_at outs xs ys (bit_and held v) w) p w ≡ word_harm (at_weight c (changed_at outs xs ys held w)) p w
 unfolding word_harm changed_at of_weight
 word-weight outs xs ys p held c w v hw told =
-    search-ext (changed_at outs xs ys (bit_and held v) w) (weighted_at outs xs ys held c w) p (w * 64) 64 (λ b l i h.
+    search-ext (changed_at outs xs ys (bit_and held v) w) (at_weight c (changed_at outs xs ys held w)) p (w * 64) 64 (λ b l i h.
     rw (back (w * 64) b, bit-and (bit_and held v) (changed_word outs xs ys i) b, bit-and held v b, bit-and held (changed_word outs xs ys i) b, told most_inputs b l (omega arith))
     (and_front (bit held b) (eqb (count most_inputs (bit (w * 64 + b))) c) (bit (changed_word outs xs ys i) b)))
   where
@@ -72,10 +72,10 @@ word-weight outs xs ys p held c w v hw told =
 
 -- word w of the words harmed
 pub word-harmed : (harmed outs xs ys : List ℕ) (p c w : ℕ)
-    → word_harm (weighted_at outs (words_at xs w) (words_at ys w) (get_or harmed w 0) c w) p w ≡ word_harm (λ x i. of_weight c x && harmed_at harmed outs xs ys x i) p w
+    → word_harm (at_weight c (changed_at outs (words_at xs w) (words_at ys w) (get_or harmed w 0) w)) p w ≡ word_harm (at_weight c (harmed_at harmed outs xs ys)) p w
 unfolding word_harm changed_at harmed_at
 word-harmed harmed outs xs ys p c w =
-    search-ext (weighted_at outs (words_at xs w) (words_at ys w) (get_or harmed w 0) c w) (λ x i. of_weight c x && harmed_at harmed outs xs ys x i) p (w * 64) 64 (λ b l i h.
+    search-ext (at_weight c (changed_at outs (words_at xs w) (words_at ys w) (get_or harmed w 0) w)) (at_weight c (harmed_at harmed outs xs ys)) p (w * 64) 64 (λ b l i h.
     let word : (w * 64 + b) / 64 ≡ w = omega arith in
     let place : (w * 64 + b) % 64 ≡ b = omega arith in
     ap (λ (u : Bool). of_weight c (w * 64 + b) && u) (rw (back (w * 64) b, word, place) (bit-and (get_or harmed w 0) (changed_word outs (words_at xs w) (words_at ys w) i) b)))

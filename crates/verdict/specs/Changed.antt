@@ -54,13 +54,13 @@ Harmed p ex outs xs ys live W harmed =
 unfoldable pub of_weight : (c x : ℕ) → Bool
 of_weight c x = eqb (weight most_inputs x) c
 
--- output i changes at the pattern x of word w, which is one of held's and of weight c
-abbrev pub weighted_at : (outs xs ys : List ℕ) (held c w : ℕ) → ℕ → ℕ → Bool
-weighted_at outs xs ys held c w x i = of_weight c x && changed_at outs xs ys held w x i
+-- the test h at the patterns of weight c
+abbrev pub at_weight : (c : ℕ) → (ℕ → ℕ → Bool) → ℕ → ℕ → Bool
+at_weight c h x i = of_weight c x && h x i
 
 -- the first harm at the patterns of weight c of W words
 unfoldable pub weight_harm : (ℕ → ℕ → Bool) → (p W c : ℕ) → Answer
-weight_harm h p W c = first_harm (λ x i. of_weight c x && h x i) p (up_from 0 (W * 64))
+weight_harm h p W c = first_harm (at_weight c h) p (up_from 0 (W * 64))
 
 -- the first harm at those of less weight than c, the lightest first
 abbrev pub lightest_harm : (ℕ → ℕ → Bool) → (p W c : ℕ) → Answer

@@ -14,7 +14,7 @@ ghost use Rattle.network.specs.Valid.{OutputsOk};
 ghost use Rattle.network.specs.State.{state_fault};
 ghost use Rattle.network.specs.Calls.{harm_test};
 ghost use Rattle.simulate.specs.Simulated.{words_at};
-ghost use Rattle.verdict.specs.Changed.{changed_word, changed_at, word_harm, weighted_at, Harmed, harmed_at, weight_harm, lightest_harm, rows_harm};
+ghost use Rattle.verdict.specs.Changed.{changed_word, changed_at, word_harm, at_weight, Harmed, harmed_at, weight_harm, lightest_harm, rows_harm};
 
 use bits::{Frame, ROW_WORDS};
 use network::{EXCLUDED_WORDS, MOST_GATES, MOST_OUTPUTS, Refusal, SIGNAL_WORDS, Session};
@@ -113,7 +113,7 @@ fn word_harm(
 ) -> Result<(), Refusal>
     requires outputs_ok { OutputsOk outs.now p most_signals }
     requires w_lt_row_words { w < row_words }
-    ensures { result ≡ word_harm (weighted_at outs.now (words_at xs.now w) (words_at ys.now w) held c w) p w }
+    ensures { result ≡ word_harm (at_weight c (changed_at outs.now (words_at xs.now w) (words_at ys.now w) held w)) p w }
 {
     if held == 0 {
         return Ok(());

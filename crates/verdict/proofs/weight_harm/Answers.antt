@@ -1,8 +1,7 @@
 -- What is left from word w on has the answer of all words. Assumes nothing.
 use mathlib.Core.Path.{◌≡◌, ◌∙◌}
-use mathlib.Core.Bool.{◌&&◌}
 use Rattle.network.proofs.TestLaws.{handed-on}
-use Rattle.verdict.specs.Changed.{word_harm, harmed_at, of_weight}
+use Rattle.verdict.specs.Changed.{word_harm, harmed_at, at_weight}
 use Rattle.verdict.proofs.Turns.{words-found, words-next}
 use Rattle.verdict.proofs.ByWeight.{weight-start}
 use Rattle.verdict.proofs.HarmWords.{word-harmed}
@@ -15,7 +14,7 @@ loop-w-init c = weight-start _ _ _ _
 -- the answer of a word, by the test of this weight
 answer : (c : After-word_harm) →
     let a = c.args in
-    c.word_harm.result ≡ word_harm (λ x i. of_weight a.c x && harmed_at a.harmed.now a.outs.now a.xs.now a.ys.now x i) a.p c.loop-w.w
+    c.word_harm.result ≡ word_harm (at_weight a.c (harmed_at a.harmed.now a.outs.now a.xs.now a.ys.now)) a.p c.loop-w.w
 answer c =
     let a = c.args in
     c.word_harm.ensures ∙ word-harmed a.harmed.now a.outs.now a.xs.now a.ys.now a.p a.c c.loop-w.w
